@@ -1,0 +1,6 @@
+pub mod Faults
+pub mod Names
+pub mod Bytes
+pub mod Errors
+pub mod Statuses
+pub mod Memory
