@@ -1,0 +1,6 @@
+pub mod Store
+pub mod Paths
+pub mod PathMeaning
+pub mod Posix
+pub mod Walk
+pub mod Machine

@@ -1,0 +1,48 @@
+-- Where a path leads in a tree that stands still: pathname resolution of POSIX.1-2017, XBD 4.13, by
+-- recursion on the components. That only so many names may be taken is this project's own.
+use Rattle.std.specs.Prelude.{ℕ, ◌==◌, zero, suc, if◌then◌else◌, List, [], ◌∷◌, Option, None, Some, Result, Ok, Err}
+use Rattle.wf_core.specs.declared.errno.Errno.{Errno}
+use Rattle.wf_core.specs.declared.errno.Errno.TheVariants.{Enoent, Enametoolong}
+use Rattle.name_store.specs.declared.operation.Node.{Node}
+use Rattle.name_store.specs.declared.operation.Node.TheVariants.{Dir}
+use Rattle.name_store.specs.NameTrees.{Tree, Listing, dir_at, entry_at}
+use Rattle.path_walk.specs.declared.part.Part.{Part}
+use Rattle.path_walk.specs.declared.part.Part.TheVariants.{Here, Up, Down, TooLong}
+
+-- the directory that a path leads to, and how many names it may still take
+pub record Place : Type 0 where
+  pub names : ℕ
+  pub directory : ℕ
+
+-- the directory that a node is; what is absent is no directory
+abbrev pub into : Option Node → Result ℕ Errno
+into None = Err Enoent
+into (Some (Dir id)) = Ok id
+
+-- the entry of that name in a directory, where the directory is there
+abbrev pub below : Option Listing → List ℕ → Result ℕ Errno
+below None name = Err Enoent
+below (Some directory) name = into (entry_at directory name)
+
+-- the directory above another; the root is above itself
+abbrev pub above : Tree → ℕ → Option Listing → Result ℕ Errno
+above tree id None = Err Enoent
+above tree id (Some directory) = Ok directory.parent
+
+abbrev pub up_from : Tree → ℕ → Result ℕ Errno
+up_from tree id = if id == 0 then Ok 0 else above tree id (dir_at tree id)
+
+-- on from the directory that was reached, where one was
+abbrev pub along : Result ℕ Errno → (ℕ → Result Place Errno) → Result Place Errno
+along (Err error) next = Err error
+along (Ok here) next = next here
+
+-- where the parts lead from directory `here`, with so many names that may still be taken
+abbrev pub resolve : Tree → List Part → ℕ → ℕ → Result Place Errno
+resolve tree [] names here = Ok (record { names = names; directory = here })
+resolve tree (Here ∷ rest) names here = resolve tree rest names here
+resolve tree (Up ∷ rest) zero here = Err Enametoolong
+resolve tree (Up ∷ rest) (suc names) here = along (up_from tree here) (λ there. resolve tree rest names there)
+resolve tree (TooLong ∷ rest) names here = Err Enametoolong
+resolve tree (Down name ∷ rest) zero here = Err Enametoolong
+resolve tree (Down name ∷ rest) (suc names) here = along (below (dir_at tree here) name) (λ there. resolve tree rest names there)

@@ -1,0 +1,41 @@
+-- The components of a path (POSIX.1-2017, XBD 3.271 and 4.13). The limits on lengths are this project's own.
+use Rattle.std.specs.Prelude.{ℕ, ◌==◌, ◌-◌, if◌then◌else◌, not, nat_lt, List, [], length, map, filter, take, Option, None, Some, slice_get}
+use Rattle.std.specs.List.{slice_split}
+use Rattle.wf_core.specs.Names.{is_slash, is_dot, is_dot_dot}
+use Rattle.wf_core.specs.declared.errno.Errno.{Errno}
+use Rattle.wf_core.specs.declared.errno.Errno.TheVariants.{Enoent, Enametoolong}
+use Rattle.path_walk.specs.declared.part.Part.{Part}
+use Rattle.path_walk.specs.declared.part.Part.TheVariants.{Here, Up, Down, TooLong}
+
+-- what stands between slashes; several slashes count as one
+abbrev pub components : List ℕ → List (List ℕ)
+components path = filter (λ piece. not (length piece == 0)) (slice_split is_slash path)
+
+-- what a component asks for: `.` to stay, `..` to go up, a name to go down. A name has at most 255 bytes.
+abbrev pub part_of : List ℕ → Part
+part_of component =
+    if is_dot component then Here
+    else if is_dot_dot component then Up
+    else if nat_lt 255 (length component) then TooLong
+    else Down component
+
+abbrev pub parts_of : List ℕ → List Part
+parts_of path = map part_of (components path)
+
+-- the last component of a path that has one, and those before it
+abbrev pub last_of : List Part → Option Part
+last_of parts = slice_get parts (length parts - 1)
+
+abbrev pub front_of : List Part → List Part
+front_of parts = take (length parts - 1) parts
+
+-- the error of a path that is not walked at all: it is empty, or has more than 4,095 bytes
+abbrev pub path_fault : List ℕ → Option Errno
+path_fault path =
+    if length path == 0 then Some Enoent
+    else if nat_lt 4095 (length path) then Some Enametoolong
+    else None
+
+-- the most names that one path may take
+abbrev pub names_max : ℕ
+names_max = 256

@@ -1,0 +1,12 @@
+//! How a file call walks its path: the steps that it takes one after another on the cells of a store.
+#![tactic(auto)]
+
+pub use call::{Call, Need, Reply};
+pub use machine::CallMachine;
+pub use step::{CellId, StepAnswer, StoreAnswer, StoreOp};
+
+mod call;
+mod machine;
+mod part;
+mod step;
+mod trail;

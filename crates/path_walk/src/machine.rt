@@ -1,0 +1,166 @@
+ghost use Rattle.std.specs.Prelude.{◌≡◌, MatchResult, IfOk, OnErr, Ok, Err};
+ghost use Rattle.path_walk.specs.Paths.{path_fault, names_max};
+ghost use Rattle.path_walk.specs.Walk.{program, way_of, made_reply};
+ghost use Rattle.path_walk.specs.Machine.{Expects, Falls, Shows, resumed, steps_left};
+ghost use Rattle.path_walk.specs.declared.trail.Stage.{Stage};
+ghost use Rattle.path_walk.specs.declared.trail.Stage.TheVariants.{Start};
+
+use crate::call::{Call, Need, Reply};
+use crate::part::Parts;
+use crate::step::{StepAnswer, StoreAnswer};
+use crate::trail::{Goal, Stage, Trail, Turn, over};
+use name_store::{NameAnswer, Node};
+use std::alloc::{AllocError, Global};
+use std::marker::Model;
+use std::mem;
+use wf_core::{Errno, PathText};
+
+/// The most bytes of a path.
+const PATH_MAX: usize = 4095;
+
+/// The most names that a path may take.
+const NAMES_MAX: u32 = 256;
+
+/// One call, step by step: it tells which step it needs, and goes on from the answer.
+#[derive(Drop)]
+pub struct CallMachine {
+    alloc: Global,
+    stage: Stage,
+}
+
+impl Model for CallMachine {
+    ghost Value = { Stage };
+
+    ghost view = { λ m. m.stage };
+}
+
+impl CallMachine {
+    /// The machine of a call that is not begun.
+    pub fn new(alloc: Global, call: Call) -> CallMachine
+        ensures { result ≡ Start call }
+    {
+        CallMachine {
+            alloc,
+            stage: Stage::Start(call),
+        }
+    }
+
+    /// What the call needs next. The first call of `next` has no answer, and each further one has the answer
+    /// to the step that the one before asked for. Want of memory changes nothing.
+    pub fn next(&mut self, answer: Option<StepAnswer>) -> Result<Need, AllocError>
+        requires { Expects self.old answer }
+        ensures ok { IfOk result (λ need. Shows need (resumed self.old answer) self.new) }
+        ensures falls { IfOk result (λ need. Falls need (steps_left self.old) self.new) }
+        ensures err { OnErr result (self.new ≡ self.old) }
+    {
+        let turn = match answer {
+            None => self.begin()?,
+            Some(answer) => self.resume(answer),
+        };
+        self.stage = turn.stage;
+        Ok(turn.need)
+    }
+
+    fn begin(&self) -> Result<Turn, AllocError>
+        requires { Expects self.now None }
+        ensures shows { IfOk result (λ turn. Shows turn.need (resumed self.now None) turn.stage) }
+        ensures falls { IfOk result (λ turn. Falls turn.need (steps_left self.now) turn.stage) }
+    {
+        match &self.stage {
+            Stage::Start(Call::Stat(path)) => begin_stat(self.alloc, path),
+            Stage::Start(Call::Mkdir(path)) => begin_mkdir(self.alloc, path),
+            _ => unreachable!(),
+        }
+    }
+
+    fn resume(&mut self, answer: StepAnswer) -> Turn
+        requires { Expects self.old (Some answer) }
+        ensures shows { Shows result.need (resumed self.old (Some answer)) result.stage }
+        ensures falls { Falls result.need (steps_left self.old) result.stage }
+    {
+        match mem::replace(&mut self.stage, Stage::Over) {
+            Stage::Walking(trail) => match way(answer) {
+                Ok(here) => trail.proceed(here),
+                Err(errno) => over(Reply::Fault(errno)),
+            },
+            Stage::Making => over(made(answer)),
+            _ => unreachable!(),
+        }
+    }
+}
+
+fn fault_of(path: &PathText) -> Option<Errno>
+    ensures { result ≡ path_fault path.now }
+{
+    let length = path.as_bytes().len();
+    if length == 0 {
+        return Some(Errno::Enoent);
+    }
+    if length > PATH_MAX {
+        return Some(Errno::Enametoolong);
+    }
+    None
+}
+
+fn begin_stat(alloc: Global, path: &PathText) -> Result<Turn, AllocError>
+    ensures shows { IfOk result (λ turn. Shows turn.need (program (Call.Stat path.now)) turn.stage) }
+    ensures falls { IfOk result (λ turn. Falls turn.need names_max turn.stage) }
+{
+    if let Some(errno) = fault_of(path) {
+        return Ok(over(Reply::Fault(errno)));
+    }
+    let trail = Trail {
+        names: NAMES_MAX,
+        rest: Parts::read(alloc, path)?,
+        goal: Goal::Ask,
+    };
+    Ok(trail.proceed(0))
+}
+
+fn begin_mkdir(alloc: Global, path: &PathText) -> Result<Turn, AllocError>
+    ensures shows { IfOk result (λ turn. Shows turn.need (program (Call.Mkdir path.now)) turn.stage) }
+    ensures falls { IfOk result (λ turn. Falls turn.need names_max turn.stage) }
+{
+    if let Some(errno) = fault_of(path) {
+        return Ok(over(Reply::Fault(errno)));
+    }
+    let mut rest = Parts::read(alloc, path)?;
+    let last = rest.take_last();
+    let trail = Trail {
+        names: NAMES_MAX,
+        rest,
+        goal: Goal::Make(last),
+    };
+    Ok(trail.proceed(0))
+}
+
+/// Where the answer to a look-up leads.
+fn way(answer: StepAnswer) -> Result<u64, Errno>
+    ensures { result ≡ way_of answer }
+{
+    match answer {
+        StepAnswer::Answered(StoreAnswer::Names(answer)) => match answer {
+            NameAnswer::Found(Node::Dir(id)) => Ok(id),
+            NameAnswer::Fault(errno) => Err(errno),
+            NameAnswer::Gone | NameAnswer::Absent | NameAnswer::Made(_) => Err(Errno::Enoent),
+        },
+        StepAnswer::Cancelled => Err(Errno::Ecanceled),
+        StepAnswer::Closed => Err(Errno::Enxio),
+    }
+}
+
+/// What the answer to a `makedir` replies.
+fn made(answer: StepAnswer) -> Reply
+    ensures { result ≡ made_reply answer }
+{
+    match answer {
+        StepAnswer::Answered(StoreAnswer::Names(answer)) => match answer {
+            NameAnswer::Made(_) => Reply::Done,
+            NameAnswer::Fault(errno) => Reply::Fault(errno),
+            NameAnswer::Found(_) => Reply::Fault(Errno::Eexist),
+            NameAnswer::Gone | NameAnswer::Absent => Reply::Fault(Errno::Enoent),
+        },
+        StepAnswer::Cancelled => Reply::Fault(Errno::Ecanceled),
+        StepAnswer::Closed => Reply::Fault(Errno::Enxio),
+    }
+}

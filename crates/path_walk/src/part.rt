@@ -1,0 +1,91 @@
+ghost use Rattle.std.specs.Prelude.{◌≡◌, ◌≢◌, [], ◌∷◌, true, List, length, map, IfOk, MatchOption};
+ghost use Rattle.std.specs.List.{list_all};
+ghost use Rattle.wf_core.specs.Names.{is_name_byte};
+ghost use Rattle.path_walk.specs.declared.part.Part.{Part};
+ghost use Rattle.path_walk.specs.Paths.{components, part_of, parts_of, last_of, front_of};
+
+use std::alloc::{AllocError, Global};
+use std::collections::VecDeque;
+use std::marker::Model;
+use wf_core::{Name, NameRefusal, PathText};
+
+/// What a component of a path asks for.
+#[derive(Debug, Drop)]
+pub(crate) enum Part {
+    /// `.`, to stay.
+    Here,
+    /// `..`, to go up.
+    Up,
+    /// A name, to go down.
+    Down(Name),
+    /// More bytes than a name has.
+    TooLong,
+}
+
+impl Part {
+    fn read(alloc: Global, component: &[u8]) -> Result<Part, AllocError>
+        requires some { length component.now ≢ 0 }
+        requires bytes { list_all is_name_byte component.now ≡ true }
+        ensures { IfOk result (λ part. part ≡ part_of component.now) }
+    {
+        if component == b".".as_slice() {
+            return Ok(Part::Here);
+        }
+        if component == b"..".as_slice() {
+            return Ok(Part::Up);
+        }
+        match Name::read(alloc, component) {
+            Ok(name) => Ok(Part::Down(name)),
+            Err(NameRefusal::TooLong) => Ok(Part::TooLong),
+            Err(NameRefusal::NotAName) => unreachable!(),
+            Err(NameRefusal::NoMemory) => Err(AllocError),
+        }
+    }
+}
+
+/// The parts of a path that are still to come, seen as their list.
+#[derive(Debug, Drop)]
+pub(crate) struct Parts {
+    parts: VecDeque<Part>,
+}
+
+impl Model for Parts {
+    ghost Value = { List Part };
+
+    ghost view = { λ p. p.parts.items };
+}
+
+impl Parts {
+    /// The parts of a path.
+    pub(crate) fn read(alloc: Global, path: &PathText) -> Result<Parts, AllocError>
+        ensures { IfOk result (λ parts. parts ≡ parts_of path.now) }
+    {
+        let pieces = components_of(alloc, path.as_bytes())?;
+        let mut parts = VecDeque::new(alloc);
+        for piece in pieces.as_slice() {
+            parts.push_back(Part::read(alloc, piece)?)?;
+        }
+        Ok(Parts { parts })
+    }
+
+    pub(crate) fn next(&mut self) -> Option<Part>
+        ensures { MatchOption result (self.old ≡ []) (λ part. self.old ≡ part ∷ self.new) }
+    {
+        self.parts.pop_front()
+    }
+
+    pub(crate) fn take_last(&mut self) -> Option<Part>
+        ensures last { result ≡ last_of self.old }
+        ensures front { self.new ≡ front_of self.old }
+    {
+        self.parts.pop_back()
+    }
+}
+
+fn components_of(alloc: Global, path: &[u8]) -> Result<Vec<&[u8]>, AllocError>
+    ensures { IfOk result (λ pieces. map (λ piece. piece.now) pieces.items ≡ components path.now) }
+{
+    path.split(|byte| *byte == b'/')
+        .filter(|piece| !piece.is_empty())
+        .collect(alloc)
+}

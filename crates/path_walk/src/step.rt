@@ -1,0 +1,30 @@
+use name_store::{NameAnswer, NameOp};
+
+/// A cell of the store: what changes under one step.
+#[derive(Clone, Copy, Debug, PartialEq, Eq)]
+pub enum CellId {
+    /// The names of that backend; the root's is number 0.
+    Names(u32),
+}
+
+/// An operation on a cell.
+#[derive(Debug, Drop)]
+pub enum StoreOp {
+    Names(NameOp),
+}
+
+/// What an operation on a cell answers.
+#[derive(Clone, Copy, Debug, PartialEq, Eq)]
+pub enum StoreAnswer {
+    Names(NameAnswer),
+}
+
+/// What a call is told of a step.
+#[derive(Clone, Copy, Debug, PartialEq, Eq)]
+pub enum StepAnswer {
+    Answered(StoreAnswer),
+    /// The worker of the cell's backend exited before it took the step.
+    Cancelled,
+    /// The worker of the cell's backend was closed.
+    Closed,
+}
