@@ -1,0 +1,6 @@
+pub mod Traces
+pub mod Fields
+pub mod Grammar
+pub mod Spelling
+pub mod Texts
+pub mod SoloText

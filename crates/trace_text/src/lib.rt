@@ -1,0 +1,11 @@
+//! The texts of a run: the trace that is read, and the replies and the tree that are printed.
+#![tactic(auto)]
+
+pub use refusal::TraceRefusal;
+pub use trace::{CallLine, CallWord, Trace};
+
+mod field;
+mod print;
+mod read;
+mod refusal;
+mod trace;
