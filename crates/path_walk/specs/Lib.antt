@@ -4,3 +4,5 @@ pub mod PathMeaning
 pub mod Posix
 pub mod Walk
 pub mod Machine
+pub mod Backing
+pub mod Laws

@@ -1,5 +1,7 @@
 -- What a machine of one call stands for: the program that is left of the call.
 use Rattle.std.specs.Prelude.{◌≡◌, ℕ, ◌<◌, Option, None, Some}
+use Rattle.path_walk.specs.declared.step.CellId.TheVariants.{Names as NamesCell}
+use Rattle.path_walk.specs.declared.step.StoreOp.TheVariants.{Names as NamesOp}
 use Rattle.path_walk.specs.declared.step.StepAnswer.{StepAnswer}
 use Rattle.path_walk.specs.declared.call.Reply.TheVariants.{Done}
 use Rattle.path_walk.specs.declared.trail.Goal.{Goal}
@@ -43,6 +45,11 @@ Shows (DoneNeed reply) (asks cell op next) stage = ⊥
 Shows (Step cell op) (finished given) stage = ⊥
 Shows (Step cell op) (asks asked_cell asked_op next) stage =
     (cell ≡ asked_cell) × (op ≡ asked_op) × ((answer : StepAnswer) → (next answer ≡ resumed stage (Some answer)) × Expects stage (Some answer))
+
+-- each step is on the root's names
+abbrev pub AsksRoot : Need → Type 0
+AsksRoot (DoneNeed reply) = Unit {0}
+AsksRoot (Step (NamesCell backend) (NamesOp op)) = backend ≡ 0
 
 -- how many steps may still be asked for
 abbrev pub steps_left : Stage → ℕ

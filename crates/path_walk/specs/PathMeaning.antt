@@ -24,13 +24,14 @@ abbrev pub below : Option Listing → List ℕ → Result ℕ Errno
 below None name = Err Enoent
 below (Some directory) name = into (entry_at directory name)
 
--- the directory above another; the root is above itself
-abbrev pub above : Tree → ℕ → Option Listing → Result ℕ Errno
-above tree id None = Err Enoent
-above tree id (Some directory) = Ok directory.parent
+-- the directory above another, where that is there
+abbrev pub above : Option Listing → Result ℕ Errno
+above None = Err Enoent
+above (Some directory) = Ok directory.parent
 
+-- the root stays
 abbrev pub up_from : Tree → ℕ → Result ℕ Errno
-up_from tree id = if id == 0 then Ok 0 else above tree id (dir_at tree id)
+up_from tree here = if here == 0 then Ok here else above (dir_at tree here)
 
 -- on from the directory that was reached, where one was
 abbrev pub along : Result ℕ Errno → (ℕ → Result Place Errno) → Result Place Errno

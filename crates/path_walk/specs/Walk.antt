@@ -21,6 +21,8 @@ use Rattle.path_walk.specs.declared.call.Call.{Call}
 use Rattle.path_walk.specs.declared.call.Call.TheVariants.{Mkdir, Stat}
 use Rattle.path_walk.specs.declared.call.Reply.{Reply}
 use Rattle.path_walk.specs.declared.call.Reply.TheVariants.{Done, Dir, Fault}
+use Rattle.path_walk.specs.Store.{Store, cstep}
+use Rattle.path_walk.specs.Posix.{Outcome, replied}
 use Rattle.path_walk.specs.Paths.{parts_of, front_of, last_of, path_fault, names_max}
 
 -- what a call does: it is over with its reply, or it asks for a step and goes on from the answer
@@ -93,6 +95,11 @@ unless None program = program
 abbrev pub program : Call → Program
 program (Stat path) = unless (path_fault path) (walk (parts_of path) names_max 0 asked)
 program (Mkdir path) = unless (path_fault path) (walk (front_of (parts_of path)) names_max 0 (making (last_of (parts_of path))))
+
+-- the same over a store that nobody else changes: each step is the definition's
+abbrev pub run : Program → Store → Outcome
+run (finished reply) store = replied store reply
+run (asks cell op next) store = let stepped = cstep store cell op in run (next (Answered stepped.answer)) stepped.store
 
 -- a step that was asked for, and what came of it; a step may find no memory
 pub record Step : Type 0 where

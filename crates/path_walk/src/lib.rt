@@ -1,10 +1,12 @@
 //! How a file call walks its path: the steps that it takes one after another on the cells of a store.
 #![tactic(auto)]
 
+pub use backends::{Backends, perform};
 pub use call::{Call, Need, Reply};
 pub use machine::CallMachine;
 pub use step::{CellId, StepAnswer, StoreAnswer, StoreOp};
 
+mod backends;
 mod call;
 mod machine;
 mod part;

@@ -1,7 +1,7 @@
 ghost use Rattle.std.specs.Prelude.{◌≡◌, MatchResult, IfOk, OnErr, Ok, Err};
 ghost use Rattle.path_walk.specs.Paths.{path_fault, names_max};
 ghost use Rattle.path_walk.specs.Walk.{program, way_of, made_reply};
-ghost use Rattle.path_walk.specs.Machine.{Expects, Falls, Shows, resumed, steps_left};
+ghost use Rattle.path_walk.specs.Machine.{AsksRoot, Expects, Falls, Shows, resumed, steps_left};
 ghost use Rattle.path_walk.specs.declared.trail.Stage.{Stage};
 ghost use Rattle.path_walk.specs.declared.trail.Stage.TheVariants.{Start};
 
@@ -51,6 +51,7 @@ impl CallMachine {
         requires { Expects self.old answer }
         ensures ok { IfOk result (λ need. Shows need (resumed self.old answer) self.new) }
         ensures falls { IfOk result (λ need. Falls need (steps_left self.old) self.new) }
+        ensures root { IfOk result AsksRoot }
         ensures err { OnErr result (self.new ≡ self.old) }
     {
         let turn = match answer {
@@ -65,6 +66,7 @@ impl CallMachine {
         requires { Expects self.now None }
         ensures shows { IfOk result (λ turn. Shows turn.need (resumed self.now None) turn.stage) }
         ensures falls { IfOk result (λ turn. Falls turn.need (steps_left self.now) turn.stage) }
+        ensures root { IfOk result (λ turn. AsksRoot turn.need) }
     {
         match &self.stage {
             Stage::Start(Call::Stat(path)) => begin_stat(self.alloc, path),
@@ -77,6 +79,7 @@ impl CallMachine {
         requires { Expects self.old (Some answer) }
         ensures shows { Shows result.need (resumed self.old (Some answer)) result.stage }
         ensures falls { Falls result.need (steps_left self.old) result.stage }
+        ensures root { AsksRoot result.need }
     {
         match mem::replace(&mut self.stage, Stage::Over) {
             Stage::Walking(trail) => match way(answer) {
@@ -105,6 +108,7 @@ fn fault_of(path: &PathText) -> Option<Errno>
 fn begin_stat(alloc: Global, path: &PathText) -> Result<Turn, AllocError>
     ensures shows { IfOk result (λ turn. Shows turn.need (program (Call.Stat path.now)) turn.stage) }
     ensures falls { IfOk result (λ turn. Falls turn.need names_max turn.stage) }
+    ensures root { IfOk result (λ turn. AsksRoot turn.need) }
 {
     if let Some(errno) = fault_of(path) {
         return Ok(over(Reply::Fault(errno)));
@@ -120,6 +124,7 @@ fn begin_stat(alloc: Global, path: &PathText) -> Result<Turn, AllocError>
 fn begin_mkdir(alloc: Global, path: &PathText) -> Result<Turn, AllocError>
     ensures shows { IfOk result (λ turn. Shows turn.need (program (Call.Mkdir path.now)) turn.stage) }
     ensures falls { IfOk result (λ turn. Falls turn.need names_max turn.stage) }
+    ensures root { IfOk result (λ turn. AsksRoot turn.need) }
 {
     if let Some(errno) = fault_of(path) {
         return Ok(over(Reply::Fault(errno)));

@@ -1,6 +1,6 @@
 ghost use Rattle.std.specs.Prelude.{◌≡◌, ◌≤◌, ℕ};
 ghost use Rattle.path_walk.specs.Walk.{walk, taken, goes, finished};
-ghost use Rattle.path_walk.specs.Machine.{Shows, Falls, after_walk};
+ghost use Rattle.path_walk.specs.Machine.{AsksRoot, Shows, Falls, after_walk};
 
 use crate::call::{Call, Need, Reply};
 use crate::part::{Part, Parts};
@@ -45,7 +45,8 @@ pub(crate) struct Turn {
 
 /// The end of a call.
 pub(crate) fn over(reply: Reply) -> Turn
-    ensures { Shows result.need (finished reply) result.stage }
+    ensures shows { Shows result.need (finished reply) result.stage }
+    ensures root { AsksRoot result.need }
 {
     Turn {
         stage: Stage::Over,
@@ -54,7 +55,8 @@ pub(crate) fn over(reply: Reply) -> Turn
 }
 
 fn fault(errno: Errno) -> Turn
-    ensures { Shows result.need (finished (Reply.Fault errno)) result.stage }
+    ensures shows { Shows result.need (finished (Reply.Fault errno)) result.stage }
+    ensures root { AsksRoot result.need }
 {
     over(Reply::Fault(errno))
 }
@@ -73,6 +75,7 @@ impl Goal {
     fn reach(self, names: u32, here: u64) -> Turn
         ensures shows { Shows result.need (after_walk self names here) result.stage }
         ensures falls { (before : ℕ) → names ≤ before → Falls result.need before result.stage }
+        ensures root { AsksRoot result.need }
     {
         match self {
             Goal::Ask => over(Reply::Dir),
@@ -89,6 +92,7 @@ impl Trail {
     pub(crate) fn proceed(mut self, here: u64) -> Turn
         ensures shows { Shows result.need (walk self.rest self.names here (after_walk self.goal)) result.stage }
         ensures falls { Falls result.need self.names result.stage }
+        ensures root { AsksRoot result.need }
     {
         while let Some(part) = self.rest.next() {
             match part {
@@ -106,6 +110,7 @@ impl Trail {
     fn ask(mut self, op: NameOp) -> Turn
         ensures shows { Shows result.need (taken self.names (λ left. goes op (λ there. walk self.rest left there (after_walk self.goal)))) result.stage }
         ensures falls { (before : ℕ) → self.names ≤ before → Falls result.need before result.stage }
+        ensures root { AsksRoot result.need }
     {
         if self.names == 0 {
             return fault(Errno::Enametoolong);

@@ -1,0 +1,153 @@
+-- A call that is under way.
+use Rattle.std.proofs.Common.{◌≡◌, ℕ, ◌+◌, ◌≤◌, ◌<◌, List, [], ◌∷◌, ◌++◌, length, Option, None, Some, Result, Ok, Err, refl, sym, ap, subst, ◌∙◌, append_assoc, append-nil, length-append, arith, MatchResult, IsErr}
+use Rattle.std.specs.declared.alloc.AllocError.{AllocError}
+use Rattle.path_walk.specs.declared.step.CellId.{CellId}
+use Rattle.path_walk.specs.declared.step.StoreOp.{StoreOp}
+use Rattle.path_walk.specs.declared.step.StoreAnswer.{StoreAnswer}
+use Rattle.path_walk.specs.declared.step.StepAnswer.{StepAnswer}
+use Rattle.path_walk.specs.declared.step.StepAnswer.TheVariants.{Answered, Cancelled, Closed}
+use Rattle.path_walk.specs.declared.call.Call.{Call}
+use Rattle.path_walk.specs.declared.call.Reply.{Reply}
+use Rattle.path_walk.specs.declared.call.Need.{Need}
+use Rattle.path_walk.specs.declared.call.Need.TheVariants.{Step as StepNeed, Done as DoneNeed}
+use Rattle.path_walk.specs.declared.trail.Stage.{Stage}
+use Rattle.path_walk.specs.declared.trail.Stage.TheVariants.{Start}
+use Rattle.path_walk.specs.Store.{Store, Stepped, cstep}
+use Rattle.path_walk.specs.Posix.{replied}
+use Rattle.path_walk.specs.Walk.{Program, finished, asks, Step, step_of, Takes, Begins, Walk, run, program}
+use Rattle.path_walk.specs.Machine.{Expects, Falls, Shows, resumed, steps_left}
+use Rattle.path_walk.specs.Backing.{StepsAlone, CallsAlone}
+use Rattle.path_walk.proofs.Posixly.{steps_are_the_call}
+
+-- where the store was told, it is told still, and the two are so related
+abbrev pub Tells : Option Store → Option Store → (Store → Store → Type 0) → Type 0
+Tells None new P = Unit {0}
+Tells (Some old) None P = ⊥
+Tells (Some old) (Some new) P = P old new
+
+-- after some steps the call goes on as the machine does
+pub record Along {B : Type 0} (ran : B → List Step → B → Type 0) (told : B → Option Store) (call : Call) (first now : B) (stage : Stage) (answer : Option StepAnswer) : Type 0 where
+  pub steps : List Step
+  pub so_far : ran first steps now
+  pub within : length steps + steps_left stage ≤ 256
+  pub expects : Expects stage answer
+  pub takes : (rest : List Step) (reply : Reply) → Takes (resumed stage answer) rest reply → Takes (program call) (steps ++ rest) reply
+  pub begins : (rest : List Step) → Begins (resumed stage answer) rest → Begins (program call) (steps ++ rest)
+  pub alone : Tells (told first) (told now) (λ s t. run (program call) s ≡ run (resumed stage answer) t)
+
+same_step : (cell other : CellId) (op asked : StoreOp) (outcome : Result StepAnswer AllocError) → cell ≡ other → op ≡ asked → step_of cell op outcome ≡ step_of other asked outcome
+same_step cell other op asked outcome e f = ap (λ c. step_of c op outcome) e ∙ ap (λ o. step_of other o outcome) f
+
+shows_takes : (cell : CellId) (op : StoreOp) (p : Program) (stage : Stage) (answer : StepAnswer) (rest : List Step) (reply : Reply) → Shows (StepNeed cell op) p stage → Takes (resumed stage (Some answer)) rest reply → Takes p (step_of cell op (Ok answer) ∷ rest) reply
+shows_takes cell op (finished given) stage answer rest reply h t = absurd h
+shows_takes cell op (asks other asked next) stage answer rest reply h t = (answer, same_step cell other op asked (Ok answer) h.0 h.1, subst (λ q. Takes q rest reply) (sym (h.2 answer).0) t)
+
+shows_begins : (cell : CellId) (op : StoreOp) (p : Program) (stage : Stage) (answer : StepAnswer) (rest : List Step) → Shows (StepNeed cell op) p stage → Begins (resumed stage (Some answer)) rest → Begins p (step_of cell op (Ok answer) ∷ rest)
+shows_begins cell op (finished given) stage answer rest h t = absurd h
+shows_begins cell op (asks other asked next) stage answer [] h t = (Ok answer, same_step cell other op asked (Ok answer) h.0 h.1)
+shows_begins cell op (asks other asked next) stage answer (step ∷ rest) h t = (answer, same_step cell other op asked (Ok answer) h.0 h.1, subst (λ q. Begins q (step ∷ rest)) (sym (h.2 answer).0) t)
+
+pub shows_refused : (cell : CellId) (op : StoreOp) (p : Program) (stage : Stage) (error : AllocError) → Shows (StepNeed cell op) p stage → Begins p (step_of cell op (Err error) ∷ [])
+shows_refused cell op (finished given) stage error h = absurd h
+shows_refused cell op (asks other asked next) stage error h = (Err error, same_step cell other op asked (Err error) h.0 h.1)
+
+pub shows_done : (reply : Reply) (p : Program) (stage : Stage) → Shows (DoneNeed reply) p stage → Takes p [] reply
+shows_done reply (finished given) stage h = h
+shows_done reply (asks cell op next) stage h = absurd h
+
+shows_expects : (cell : CellId) (op : StoreOp) (p : Program) (stage : Stage) (answer : StepAnswer) → Shows (StepNeed cell op) p stage → Expects stage (Some answer)
+shows_expects cell op (finished given) stage answer h = absurd h
+shows_expects cell op (asks other asked next) stage answer h = (h.2 answer).1
+
+pub begins_none : (p : Program) → Begins p []
+begins_none (finished given) = tt
+begins_none (asks cell op next) = tt
+
+-- a step of the definition is a step of the program
+shows_run : (cell : CellId) (op : StoreOp) (p : Program) (stage : Stage) (answer : StoreAnswer) (old new : Store) → Shows (StepNeed cell op) p stage → cstep old cell op ≡ record { store = new; answer = answer } → run p old ≡ run (resumed stage (Some (Answered answer))) new
+shows_run cell op (finished given) stage answer old new h e = absurd h
+shows_run cell op (asks other asked next) stage answer old new h e =
+    let here : cstep old other asked ≡ record { store = new; answer = answer } = ap (λ c. cstep old c asked) (sym h.0) ∙ ap (λ o. cstep old cell o) (sym h.1) ∙ e in
+    ap (λ (s : Stepped). run (next (Answered s.answer)) s.store) here ∙ ap (λ q. run q new) (h.2 (Answered answer)).0
+
+tells_on : (first now new : Option Store) (cell : CellId) (op : StoreOp) (answer : StepAnswer) (whole p : Program) (stage : Stage) → Shows (StepNeed cell op) p stage → Tells first now (λ s t. run whole s ≡ run p t) → StepsAlone now cell op (Ok answer) new → Tells first new (λ s t. run whole s ≡ run (resumed stage (Some answer)) t)
+tells_on None now new cell op answer whole p stage h t k = tt
+tells_on (Some s) None new cell op answer whole p stage h t k = absurd t
+tells_on (Some s) (Some t) None cell op answer whole p stage h e k = absurd k
+tells_on (Some s) (Some t) (Some u) cell op (Answered answer) whole p stage h e k = e ∙ shows_run cell op p stage answer t u h k
+tells_on (Some s) (Some t) (Some u) cell op Cancelled whole p stage h e k = absurd k
+tells_on (Some s) (Some t) (Some u) cell op Closed whole p stage h e k = absurd k
+
+-- the call goes on over one more step
+pub along_step : {B : Type 0} (ran : B → List Step → B → Type 0) (told : B → Option Store) (ran_on : (a b c : B) (s t : List Step) → ran a s b → ran b t c → ran a (s ++ t) c) (call : Call) (first now new : B) (stage next : Stage) (given : Option StepAnswer) (answer : StepAnswer) (cell : CellId) (op : StoreOp) → Along ran told call first now stage given → Shows (StepNeed cell op) (resumed stage given) next → Falls (StepNeed cell op) (steps_left stage) next → ran now (step_of cell op (Ok answer) ∷ []) new → StepsAlone (told now) cell op (Ok answer) (told new) → Along ran told call first new next (Some answer)
+along_step ran told ran_on call first now new stage next given answer cell op along shows falls one alone =
+    let step = step_of cell op (Ok answer) in
+    record {
+      steps = along.steps ++ step ∷ [];
+      so_far = ran_on first now new along.steps (step ∷ []) along.so_far one;
+      within = (let h = along.within in omega (arith, length-append along.steps (step ∷ []), h));
+      expects = shows_expects cell op (resumed stage given) next answer shows;
+      takes = λ rest reply t. subst (λ steps. Takes (program call) steps reply) (sym (append_assoc along.steps (step ∷ []) rest)) (along.takes (step ∷ rest) reply (shows_takes cell op (resumed stage given) next answer rest reply shows t));
+      begins = λ rest t. subst (λ steps. Begins (program call) steps) (sym (append_assoc along.steps (step ∷ []) rest)) (along.begins (step ∷ rest) (shows_begins cell op (resumed stage given) next answer rest shows t));
+      alone = tells_on (told first) (told now) (told new) cell op answer (program call) (resumed stage given) next shows along.alone alone;
+    }
+
+tells_start : (p : Program) (told : Option Store) → Tells told told (λ s t. run p s ≡ run p t)
+tells_start p None = tt
+tells_start p (Some store) = refl
+
+-- nothing was done yet
+pub along_start : {B : Type 0} (ran : B → List Step → B → Type 0) (told : B → Option Store) (ran_none : (b : B) → ran b [] b) (call : Call) (first : B) (stage : Stage) → stage ≡ Start call → Along ran told call first first stage None
+along_start ran told ran_none call first stage e = subst (λ s. Along ran told call first first s None) (sym e)
+    (record {
+      steps = [];
+      so_far = ran_none first;
+      within = omega arith;
+      expects = tt;
+      takes = λ rest reply t. t;
+      begins = λ rest t. t;
+      alone = tells_start (program call) (told first);
+    })
+
+on_err : (r : Result Reply AllocError) (P : Reply → Type 0) (Q : Type 0) → IsErr r → Q → MatchResult r P (λ _. Q)
+on_err (Ok reply) P Q h q = cc
+on_err (Err error) P Q h q = q
+
+-- the machine found no memory: the steps so far are a beginning
+pub stopped : {B : Type 0} (ran : B → List Step → B → Type 0) (told : B → Option Store) (call : Call) (first now : B) (stage : Stage) (given : Option StepAnswer) (r : Result Reply AllocError) → IsErr r → Along ran told call first now stage given → (steps : List Step) × ran first steps now × (length steps ≤ 256) × MatchResult r (λ reply. Walk call steps reply) (λ _. Begins (program call) steps)
+stopped ran told call first now stage given r e along = (
+  along.steps,
+  along.so_far,
+  (let h = along.within in omega (arith, h)),
+  on_err r _ _ e (subst (λ steps. Begins (program call) steps) (append-nil along.steps) (along.begins [] (begins_none _))),
+)
+
+-- a step found no memory: it is the last of a beginning
+pub refused : {B : Type 0} (ran : B → List Step → B → Type 0) (told : B → Option Store) (ran_on : (a b c : B) (s t : List Step) → ran a s b → ran b t c → ran a (s ++ t) c) (call : Call) (first now new : B) (stage next : Stage) (given : Option StepAnswer) (need : Need) (error : AllocError) (cell : CellId) (op : StoreOp) (r : Result Reply AllocError) → IsErr r → Along ran told call first now stage given → need ≡ StepNeed cell op → Shows need (resumed stage given) next → Falls need (steps_left stage) next → ran now (step_of cell op (Err error) ∷ []) new → (steps : List Step) × ran first steps new × (length steps ≤ 256) × MatchResult r (λ reply. Walk call steps reply) (λ _. Begins (program call) steps)
+refused ran told ran_on call first now new stage next given need error cell op r e along is shows falls one =
+    let step = step_of cell op (Err error) in
+    let fewer : steps_left next < steps_left stage = subst (λ n. Falls n (steps_left stage) next) is falls in (
+      along.steps ++ step ∷ [],
+      ran_on first now new along.steps (step ∷ []) along.so_far one,
+      (let h = along.within in omega (arith, length-append along.steps (step ∷ []), h, fewer)),
+      on_err r _ _ e (along.begins (step ∷ []) (shows_refused cell op (resumed stage given) next error (subst (λ n. Shows n (resumed stage given) next) is shows))),
+    )
+
+-- the machine is over: the steps are the call's, and the reply is theirs
+pub ended : {B : Type 0} (ran : B → List Step → B → Type 0) (told : B → Option Store) (call : Call) (first now : B) (stage next : Stage) (given : Option StepAnswer) (need : Need) (reply : Reply) → Along ran told call first now stage given → need ≡ DoneNeed reply → Shows need (resumed stage given) next → (steps : List Step) × ran first steps now × (length steps ≤ 256) × Walk call steps reply
+ended ran told call first now stage next given need reply along is shows = (
+  along.steps,
+  along.so_far,
+  (let h = along.within in omega (arith, h)),
+  subst (λ steps. Takes (program call) steps reply) (append-nil along.steps) (along.takes [] reply (shows_done reply (resumed stage given) next (subst (λ n. Shows n (resumed stage given) next) is shows))),
+)
+
+run_done : (reply : Reply) (p : Program) (stage : Stage) (store : Store) → Shows (DoneNeed reply) p stage → run p store ≡ record { store = store; reply = reply }
+run_done reply (finished given) stage store h = ap (λ (r : Reply). replied store r) (sym h)
+run_done reply (asks cell op next) stage store h = absurd h
+
+-- and over a store that was told, the call was the call at once
+pub ended_alone : (first now : Option Store) (call : Call) (p : Program) (next : Stage) (need : Need) (reply : Reply) → Tells first now (λ s t. run (program call) s ≡ run p t) → need ≡ DoneNeed reply → Shows need p next → CallsAlone first call reply now
+ended_alone None now call p next need reply h is shows = tt
+ended_alone (Some s) None call p next need reply h is shows = absurd h
+ended_alone (Some s) (Some t) call p next need reply h is shows = sym (steps_are_the_call s call) ∙ h ∙ run_done reply p next t (subst (λ n. Shows n p next) is shows)
