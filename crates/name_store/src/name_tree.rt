@@ -1,5 +1,5 @@
 ghost use Rattle.std.specs.Prelude.{◌≡◌, ℕ, ◌+◌, ◌^◌, ◌<◌, ◌++◌, [], length, Some, IfOk, IfSome, OnOk, OnErr, option_copied, slice_set, vec_len};
-ghost use Rattle.name_store.specs.NameTrees.{Tree, dir_at, looked_up, parent_in, with_entry, opening, nstep, made_in, grown};
+ghost use Rattle.name_store.specs.NameTrees.{Tree, dir_at, looked_up, parent_in, with_entry, opening, nstep, made_in, grown, IsForm};
 ghost use Rattle.name_store.specs.TreeLines.{tree_lines, lines_below};
 
 use crate::directory::Directory;
@@ -35,6 +35,7 @@ impl NameTree {
     /// Takes one step, which is the definition's. Want of memory changes nothing.
     pub fn apply(&mut self, op: &NameOp) -> Result<NameAnswer, AllocError>
         ensures ok { IfOk result (λ answer. nstep self.old op.now ≡ record { tree = self.new; answer = answer }) }
+        ensures form { IfOk result (IsForm op.now) }
         ensures err { OnErr result (self.new ≡ self.old) }
     {
         match op {

@@ -1,0 +1,4 @@
+pub mod Labels
+pub mod PathBytes
+pub mod Calls
+pub mod Pieces
