@@ -1,13 +1,11 @@
-ghost use Rattle.std.specs.Prelude.{◌≡◌, ◌≢◌, ◌+◌, ◌≤◌, ◌<◌, ◌↔◌, ◌⊎◌, true, false, List, map, ℕ, Err, IfOk, IfSome, MatchBool};
+ghost use Rattle.std.specs.Prelude.{◌≡◌, ◌≢◌, ◌+◌, ◌≤◌, ◌<◌, ◌↔◌, ◌⊎◌, true, false, map, IfOk, IfSome, MatchBool};
 ghost use Rattle.std.specs.String.{string_bytes};
 ghost use Rattle.std.specs.Io.KnownBytes.{Appends, IsAtEnd};
 ghost use Rattle.wf_core.specs.Bytes.{AppendsFront};
 ghost use Rattle.wf_core.specs.Faults.{Rose};
 ghost use Rattle.trace_text.specs.Traces.{traced};
 ghost use Rattle.trace_text.specs.Grammar.{trace_at};
-ghost use Rattle.trace_text.specs.SoloText.{IsSoloText};
-ghost use Rattle.trace_text.specs.Texts.{refusal_text};
-ghost use Rattle.run_engine.specs.Solo.{due_status, due_text, input_max, is_solo, usage_text, WritesNothing};
+ghost use Rattle.run_engine.specs.Solo.{due_status, due_text, input_max, is_solo, status_due, text_due, usage_text, WritesNothing, WritesRefusal, WritesSolo};
 
 use crate::solo_run::run_solo;
 use std::alloc::{AllocError, Global};
@@ -31,10 +29,9 @@ pub fn solo<S: Source, K: Sink>(
 ) -> RunStatus
     // The source was read to its end, and the whole text was written.
     ensures done { result ≡ RunStatus.Done → IfSome (S.left src.old) (λ bytes. IsAtEnd (S.left src.new)
-        × ((text : List ℕ) × IsSoloText bytes text × Appends (K.written out.old) (K.written out.new) text)) }
+        × WritesSolo bytes (K.written out.old) (K.written out.new)) }
     ensures refused { result ≡ RunStatus.Refused → IfSome (S.left src.old) (λ bytes. IsAtEnd (S.left src.new)
-        × ((refusal : TraceRefusal) × (trace_at bytes ≡ Err refusal)
-        × Appends (K.written out.old) (K.written out.new) (refusal_text refusal))) }
+        × WritesRefusal bytes (K.written out.old) (K.written out.new)) }
     ensures usage { result ≡ RunStatus.Usage → (is_solo (map string_bytes words.now) ≡ false)
         × Appends (K.written out.old) (K.written out.new) usage_text }
 
@@ -47,11 +44,11 @@ pub fn solo<S: Source, K: Sink>(
     // Without a fault, and where the input is not too long, it is what is due, or memory ran out.
     ensures complete { is_solo (map string_bytes words.now) ≡ true → S.given src.new ≤ S.given src.old + input_max
         → ¬ Rose (S.faults src.old) (S.faults src.new) → ¬ Rose (K.faults out.old) (K.faults out.new)
-        → IfSome (S.left src.old) (λ bytes. (result ≡ due_status (trace_at bytes)) ⊎ (result ≡ RunStatus.NoMemory)) }
+        → IfSome (S.left src.old) (λ bytes. (result ≡ status_due bytes) ⊎ (result ≡ RunStatus.NoMemory)) }
 
     // What was written at a fault.
     ensures front { result ≡ RunStatus.WriteFault → MatchBool (is_solo (map string_bytes words.now))
-        (IfSome (S.left src.old) (λ bytes. AppendsFront (K.written out.old) (K.written out.new) (due_text (trace_at bytes))))
+        (IfSome (S.left src.old) (λ bytes. AppendsFront (K.written out.old) (K.written out.new) (text_due bytes)))
         (AppendsFront (K.written out.old) (K.written out.new) usage_text) }
     ensures nothing { WritesNothing result → K.written out.new ≡ K.written out.old }
     ensures unread { is_solo (map string_bytes words.now) ≡ false → S.given src.new ≡ S.given src.old }
