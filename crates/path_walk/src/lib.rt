@@ -3,11 +3,13 @@
 
 pub use backends::{Backends, perform};
 pub use call::{Call, Need, Reply};
+pub use laws::{errors_change_nothing, made_is_there, made_once, steps_are_the_call};
 pub use machine::CallMachine;
 pub use step::{CellId, StepAnswer, StoreAnswer, StoreOp};
 
 mod backends;
 mod call;
+mod laws;
 mod machine;
 mod part;
 mod step;

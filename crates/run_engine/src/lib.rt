@@ -6,3 +6,5 @@ pub use commands::solo;
 mod commands;
 mod root_store;
 mod solo_run;
+#[cfg(test)]
+mod tests;

@@ -19,7 +19,7 @@ before_last : (pieces front : List (List ℕ)) (last : List ℕ) → pieces ≡ 
 before_last pieces front last e = omega (arith, ap length e, length-append front (last ∷ []))
 
 -- the pieces before the last one are the lines, and the last one is what follows them
-headed_at : (bytes : List ℕ) (front : List (List ℕ)) (last : List ℕ) → pieces_of bytes ≡ front ++ last ∷ [] → headed front last ≡ trace_at bytes
+pub headed_at : (bytes : List ℕ) (front : List (List ℕ)) (last : List ℕ) → pieces_of bytes ≡ front ++ last ∷ [] → headed front last ≡ trace_at bytes
 headed_at bytes front last e =
     let at = before_last (pieces_of bytes) front last e in
     let lines : lines_of bytes ≡ front = ap (λ (n : ℕ). take n (pieces_of bytes)) at ∙ ap (take (length front)) e ∙ take-append_seam front (last ∷ []) in

@@ -46,3 +46,17 @@ pub fn run<S: Source, K: Sink, G: Gate>(
 {
     solo(alloc, words, src, out)
 }
+
+#[cfg(test)]
+mod tests {
+    use super::*;
+    use wf_core::{OpenGate, StdSink, StdSource};
+
+    #[test]
+    fn no_word_on_the_real_streams(rt: HostRuntime) {
+        let mut src = StdSource::new(rt.stdin());
+        let mut out = StdSink::new(rt.stdout());
+        let status = run(rt.alloc(), &[], &mut src, &mut out, &OpenGate);
+        assert_eq!(rt; status.number(), 2);
+    }
+}

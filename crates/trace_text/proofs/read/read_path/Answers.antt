@@ -1,5 +1,5 @@
 use Rattle.std.proofs.Common.{◌≡◌, true, false, Err, sym, ap, ◌∙◌}
-use Rattle.trace_text.proofs.PathBytes.{path_without_nul}
+use Rattle.trace_text.proofs.FieldBytes.{path_without_nul}
 use Rattle.trace_text.proofs.read.read_path.Goals as goal
 
 pub unreachable-requires : goal.unreachable-requires

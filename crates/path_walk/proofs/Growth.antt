@@ -1,0 +1,114 @@
+-- What a tree of names keeps when a new directory is made in it.
+use Rattle.std.proofs.Common.{◌≡◌, ℕ, zero, suc, Bool, true, false, List, [], ◌∷◌, ◌++◌, length, Option, None, Some, slice_get, slice_set, refl, sym, ap, subst, ◌∙◌}
+use Rattle.std.specs.declared.cmp.Ordering.{Ordering}
+use Rattle.std.specs.declared.cmp.Ordering.TheVariants.{Less, Equal, Greater}
+use Rattle.std.specs.Ordering.{is_eq, match_ordering}
+use Rattle.std.specs.Cmp.Lexicographic.{nat_list_cmp_total}
+use Rattle.std.specs.Map.{lookup}
+use Rattle.std.specs.BTreeMap.{insert_entry, is_at}
+use Rattle.std.proofs.lemmas.Cmp.{tied_itself}
+use Rattle.std.proofs.lemmas.Map.Lookups.{exact_bytes}
+use Rattle.name_store.specs.declared.operation.Node.{Node}
+use Rattle.name_store.specs.declared.operation.Node.TheVariants.{Dir}
+use Rattle.name_store.specs.NameTrees.{Tree, Listing, byte_order, dir_at, entry_at, empty_in, with_entry, grown}
+
+abbrev Entries : Type 0
+Entries = List (List ℕ × Node)
+
+-- what stands under a name
+abbrev at : List ℕ → Entries → Option Node
+at name entries = lookup (is_at (byte_order name)) entries
+
+tied : (name : List ℕ) → byte_order name name ≡ Equal
+tied name = tied_itself nat_list_cmp_total name
+
+same_tied : (first second : List ℕ) (o : Ordering) → byte_order first second ≡ o → is_eq o ≡ true → first ≡ second
+same_tied first second Less h e = cc
+same_tied first second Equal h e = exact_bytes first second h
+same_tied first second Greater h e = cc
+
+entered_step : (name : List ℕ) (node : Node) (entry : List ℕ × Node) (entries rest : Entries) (o : Ordering) → byte_order name entry.0 ≡ o → at name rest ≡ Some node → at name (match_ordering o ((name, node) ∷ entry ∷ entries) ((entry.0, node) ∷ entries) (entry ∷ rest)) ≡ Some node
+entered_step name node entry entries rest Less h found = rw (tied name) refl
+entered_step name node entry entries rest Equal h found = rw h refl
+entered_step name node entry entries rest Greater h found = rw h found
+
+-- the new entry is found
+entered : (entries : Entries) (name : List ℕ) (node : Node) → at name (insert_entry byte_order entries name node) ≡ Some node
+entered [] name node = rw (tied name) refl
+entered (entry ∷ entries) name node = entered_step name node entry entries _ (byte_order name entry.0) refl (entered entries name node)
+
+other_step : (name other : List ℕ) (node : Node) (entry : List ℕ × Node) (entries rest : Entries) (o : Ordering) → is_at (byte_order other) name ≡ false → byte_order name entry.0 ≡ o → at other rest ≡ at other entries → at other (match_ordering o ((name, node) ∷ entry ∷ entries) ((entry.0, node) ∷ entries) (entry ∷ rest)) ≡ at other (entry ∷ entries)
+other_step name other node entry entries rest Less apart h found = rw apart refl
+other_step name other node entry entries rest Equal apart h found =
+    let passes : is_at (byte_order other) entry.0 ≡ false = subst (λ (k : List ℕ). is_at (byte_order other) k ≡ false) (exact_bytes name entry.0 h) apart in
+    rw passes refl
+other_step name other node entry entries rest Greater apart h found = rw found refl
+
+-- an entry of another name is found as before
+entered_other : (entries : Entries) (name other : List ℕ) (node : Node) → is_at (byte_order other) name ≡ false → at other (insert_entry byte_order entries name node) ≡ at other entries
+entered_other [] name other node apart = rw apart refl
+entered_other (entry ∷ entries) name other node apart =
+    other_step name other node entry entries _ (byte_order name entry.0) apart refl (entered_other entries name other node apart)
+
+-- the later directory has the same parent, and each entry of the earlier
+pub record Keeps (earlier later : Listing) : Type 0 where
+  pub parent : later.parent ≡ earlier.parent
+  pub entries : (name : List ℕ) (node : Node) → entry_at earlier name ≡ Some node → entry_at later name ≡ Some node
+
+keeps_itself : (directory : Listing) → Keeps directory directory
+keeps_itself directory = record { parent = refl; entries = λ name node h. h }
+
+-- two names of which one is there and one is not are apart
+apart_from : (directory : Listing) (name other : List ℕ) (node : Node) (same : Bool) → is_at (byte_order other) name ≡ same → entry_at directory name ≡ None → entry_at directory other ≡ Some node → is_at (byte_order other) name ≡ false
+apart_from directory name other node true h none some =
+    let one : other ≡ name = same_tied other name (byte_order other name) refl h in
+    let clash : Some node ≡ None = sym some ∙ ap (entry_at directory) one ∙ none in
+    cc
+apart_from directory name other node false h none some = h
+
+keeps_others : (directory : Listing) (name : List ℕ) (node : Node) → entry_at directory name ≡ None → Keeps directory (with_entry directory name node)
+keeps_others directory name node none = record {
+  parent = refl;
+  entries = λ other old h. entered_other directory.entries name other node (apart_from directory name other old (is_at (byte_order other) name) refl none h) ∙ h;
+}
+
+-- what stands in a list stands there still when more follows
+still_first : {X : Type 0} (xs ys : List X) (i : ℕ) (x : X) → slice_get xs i ≡ Some x → slice_get (xs ++ ys) i ≡ Some x
+still_first [] ys i x h = cc
+still_first (first ∷ xs) ys zero x h = h
+still_first (first ∷ xs) ys (suc i) x h = still_first xs ys i x h
+
+-- what stands in a list is there still, or was replaced
+after_set : {X : Type 0} (P : X → Type 0) (xs ys : List X) (i j : ℕ) (new old : X) → slice_get xs j ≡ Some old → (j ≡ i → P new) → P old → (x : X) × (slice_get (slice_set xs i new ++ ys) j ≡ Some x) × P x
+after_set P [] ys i j new old h put stays = cc
+after_set P (x ∷ xs) ys zero zero new old h put stays = (new, refl, put refl)
+after_set P (x ∷ xs) ys zero (suc j) new old h put stays = (old, still_first xs ys j old h, stays)
+after_set P (x ∷ xs) ys (suc i) zero new old h put stays = (old, h, stays)
+after_set P (x ∷ xs) ys (suc i) (suc j) new old h put stays = after_set P xs ys i j new old h (λ e. put (ap suc e)) stays
+
+set_found : {X : Type 0} (xs ys : List X) (i : ℕ) (new old : X) → slice_get xs i ≡ Some old → slice_get (slice_set xs i new ++ ys) i ≡ Some new
+set_found [] ys i new old h = cc
+set_found (x ∷ xs) ys zero new old h = refl
+set_found (x ∷ xs) ys (suc i) new old h = set_found xs ys i new old h
+
+-- each directory of the earlier tree is in the later, and keeps what it had
+abbrev pub Extends : Tree → Tree → Type 0
+Extends earlier later = (id : ℕ) (old : Listing) → dir_at earlier id ≡ Some old → (new : Listing) × (dir_at later id ≡ Some new) × Keeps old new
+
+-- a tree in which a directory was made under a name that had none extends the tree before
+pub grown_extends : (tree : Tree) (id : ℕ) (directory : Listing) (name : List ℕ) → dir_at tree id ≡ Some directory → entry_at directory name ≡ None → Extends tree (grown tree id directory name)
+grown_extends tree id directory name is_there none other old h =
+    after_set (Keeps old) tree (empty_in id ∷ []) id other (with_entry directory name (Dir (length tree))) old h kept (keeps_itself old)
+  where
+    kept : other ≡ id → Keeps old (with_entry directory name (Dir (length tree)))
+    kept e =
+        let some_same : Some directory ≡ Some old = sym is_there ∙ sym (ap (dir_at tree) e) ∙ h in
+        let same : directory ≡ old = cc in
+        subst (λ (d : Listing). Keeps d (with_entry directory name (Dir (length tree)))) same (keeps_others directory name (Dir (length tree)) none)
+
+-- and has the new entry where it was made
+pub grown_at : (tree : Tree) (id : ℕ) (directory : Listing) (name : List ℕ) → dir_at tree id ≡ Some directory → dir_at (grown tree id directory name) id ≡ Some (with_entry directory name (Dir (length tree)))
+grown_at tree id directory name is_there = set_found tree (empty_in id ∷ []) id (with_entry directory name (Dir (length tree))) directory is_there
+
+pub entry_is_there : (directory : Listing) (name : List ℕ) (node : Node) → entry_at (with_entry directory name node) name ≡ Some node
+entry_is_there directory name node = entered directory.entries name node
