@@ -14,7 +14,7 @@ pub record Place : Type 0 where
   pub names : ℕ
   pub directory : ℕ
 
--- the directory that a node is; what is absent is no directory
+-- the directory that a node is; a name that is absent is ENOENT (XSH stat() and mkdir(), ERRORS)
 abbrev pub into : Option Node → Result ℕ Errno
 into None = Err Enoent
 into (Some (Dir id)) = Ok id
@@ -29,7 +29,7 @@ abbrev pub above : Option Listing → Result ℕ Errno
 above None = Err Enoent
 above (Some directory) = Ok directory.parent
 
--- the root stays
+-- `..` in the root stays there, as XBD 4.13 allows
 abbrev pub up_from : Tree → ℕ → Result ℕ Errno
 up_from tree here = if here == 0 then Ok here else above (dir_at tree here)
 

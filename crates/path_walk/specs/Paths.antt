@@ -1,4 +1,5 @@
--- The components of a path (POSIX.1-2017, XBD 3.271 and 4.13). The limits on lengths are this project's own.
+-- The components of a path, after POSIX.1-2017, XBD 4.13. That a path without a slash at its front starts at
+-- the root too, and the limits, are this project's own.
 use Rattle.std.specs.Prelude.{ℕ, ◌==◌, ◌-◌, if◌then◌else◌, not, nat_lt, List, [], length, map, filter, take, Option, None, Some, slice_get}
 use Rattle.std.specs.List.{slice_split}
 use Rattle.wf_core.specs.Names.{is_slash, is_dot, is_dot_dot}
@@ -7,11 +8,13 @@ use Rattle.wf_core.specs.declared.errno.Errno.TheVariants.{Enoent, Enametoolong}
 use Rattle.path_walk.specs.declared.part.Part.{Part}
 use Rattle.path_walk.specs.declared.part.Part.TheVariants.{Here, Up, Down, TooLong}
 
--- what stands between slashes; several slashes count as one
+-- what stands between slashes; several slashes count as one (XBD 4.13). Slashes at the end ask for a directory,
+-- which all that is named here is, so they count for nothing
 abbrev pub components : List ℕ → List (List ℕ)
 components path = filter (λ piece. not (length piece == 0)) (slice_split is_slash path)
 
--- what a component asks for: `.` to stay, `..` to go up, a name to go down. A name has at most 255 bytes.
+-- what a component asks for: `.` to stay, `..` to go up, a name to go down (XBD 4.13). A name has at most 255
+-- bytes, which is NAME_MAX of this project.
 abbrev pub part_of : List ℕ → Part
 part_of component =
     if is_dot component then Here
@@ -29,13 +32,14 @@ last_of parts = slice_get parts (length parts - 1)
 abbrev pub front_of : List Part → List Part
 front_of parts = take (length parts - 1) parts
 
--- the error of a path that is not walked at all: it is empty, or has more than 4,095 bytes
+-- the error of a path that is not walked at all: it is empty (XBD 4.13), or has more than 4,095 bytes, which is
+-- PATH_MAX of this project without the byte 0 at the end
 abbrev pub path_fault : List ℕ → Option Errno
 path_fault path =
     if length path == 0 then Some Enoent
     else if nat_lt 4095 (length path) then Some Enametoolong
     else None
 
--- the most names that one path may take
+-- the most names that one path may take: any component but `.` is taken when the walk comes to it (own)
 abbrev pub names_max : ℕ
 names_max = 256

@@ -43,7 +43,8 @@ abbrev pub made_under : Store → ℕ → List ℕ → Option Listing → Outcom
 made_under store id name None = replied store (Fault Enoent)
 made_under store id name (Some directory) = made_in store id name directory (entry_at directory name)
 
--- `mkdir` of the last component in the directory that those before it lead to
+-- `mkdir` of the last component in the directory that those before it lead to. A last name counts as taken,
+-- a last `.` or `..` does not (own).
 abbrev pub made_at : Store → Option Part → ℕ → ℕ → Outcome
 made_at store None names here = replied store (Fault Eexist)
 made_at store (Some Here) names here = replied store (Fault Eexist)
