@@ -1,5 +1,5 @@
 -- The text of a trace that one thread runs: each call's reply, and the tree that is left.
-use Rattle.std.specs.Prelude.{◌≡◌, ℕ, List, [], ◌∷◌, ◌++◌, Result, Ok, slice_get, unwrap_or}
+use Rattle.std.specs.Prelude.{◌≡◌, ℕ, List, [], ◌∷◌, ◌++◌, Ok, slice_get, unwrap_or}
 use Rattle.std.specs.List.{flat_map}
 use Rattle.name_store.specs.NameTrees.{opening}
 use Rattle.name_store.specs.TreeLines.{tree_lines}

@@ -5,7 +5,7 @@ pub use law::reading_is_the_grammar;
 pub use print::{push_end_line, push_reply_line, push_tree_line, refusal_line};
 pub use read::read_trace;
 pub use refusal::TraceRefusal;
-pub use trace::{CallLine, CallWord, Trace};
+pub use trace::{CallLine, Trace};
 
 mod field;
 mod law;

@@ -1,4 +1,4 @@
-ghost use Rattle.std.specs.Prelude.{◌≡◌, ◌+◌, ◌++◌, ◌<◌, ◌^◌, [], true, map, codes, slice_get, vec_len, IfOk, IfSome};
+ghost use Rattle.std.specs.Prelude.{◌≡◌, ◌+◌, ◌++◌, ◌<◌, ◌^◌, [], true, map, codes, slice_get, IfOk, IfSome};
 ghost use Rattle.std.specs.Option.{option_copied};
 ghost use Rattle.trace_text.specs.Fields.{fields_of, header, is_path, is_text, pieces_of};
 ghost use Rattle.trace_text.specs.Grammar.{call_of, call_with, calls_at, field_is, headed, name_in, path_in, thread_of, threaded, trace_at, word_of};
@@ -229,7 +229,8 @@ fn read_lines(alloc: Global, lines: &[&[u8]], rest: &[u8]) -> Result<Trace, Trac
     read_body(alloc, lines, rest)
 }
 
-/// Reads a trace.
+/// Reads a trace of at most one thread. A refusal tells the first faulty line, and of its faults the one that
+/// is tried first. A call's number above 2^32 - 1 counts as want of memory.
 pub fn read_trace(alloc: Global, bytes: &[u8]) -> Result<Trace, TraceRefusal>
     ensures { Gives traced result (trace_at bytes.now) }
 {

@@ -20,7 +20,7 @@ pub struct CallLine {
 
 /// The word of a call.
 #[derive(Clone, Copy, Debug, PartialEq, Eq)]
-pub enum CallWord {
+pub(crate) enum CallWord {
     Mkdir,
     Stat,
 }
