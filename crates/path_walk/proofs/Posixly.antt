@@ -1,11 +1,11 @@
 -- The steps of a call over a store that nobody else changes are the call at once.
-use Rattle.std.proofs.Common.{◌≡◌, ℕ, ◌==◌, zero, suc, Bool, true, false, if◌then◌else◌, List, [], ◌∷◌, Option, None, Some, Result, Ok, Err, slice_set, slice_get, unwrap_or, refl, sym, ap, ◌∙◌}
+use Rattle.std.proofs.Common.{◌≡◌, ℕ, ◌==◌, zero, suc, Bool, true, false, if◌then◌else◌, List, [], ◌∷◌, Option, None, Some, Result, Ok, Err, slice_set, slice_get, unwrap_or, refl, ap, ◌∙◌}
 use Rattle.wf_core.specs.declared.errno.Errno.{Errno}
 use Rattle.wf_core.specs.declared.errno.Errno.TheVariants.{Enoent, Eexist}
 use Rattle.name_store.specs.declared.operation.Node.{Node}
 use Rattle.name_store.specs.declared.operation.Node.TheVariants.{Dir as DirNode}
 use Rattle.name_store.specs.declared.operation.NameOp.{NameOp}
-use Rattle.name_store.specs.declared.operation.NameOp.TheVariants.{Look, Parent, Makedir}
+use Rattle.name_store.specs.declared.operation.NameOp.TheVariants.{Look, Parent}
 use Rattle.name_store.specs.NameTrees.{Tree, Listing, dir_at, entry_at, nstep, parent_in, looked_up, found, made_beside, made_in as made_in_tree, Outcome as NameOutcome}
 use Rattle.path_walk.specs.declared.part.Part.{Part}
 use Rattle.path_walk.specs.declared.part.Part.TheVariants.{Here, Up, Down, TooLong}

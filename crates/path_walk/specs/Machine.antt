@@ -6,7 +6,6 @@ use Rattle.path_walk.specs.declared.step.StepAnswer.{StepAnswer}
 use Rattle.path_walk.specs.declared.call.Reply.TheVariants.{Done}
 use Rattle.path_walk.specs.declared.trail.Goal.{Goal}
 use Rattle.path_walk.specs.declared.trail.Goal.TheVariants.{Ask, Make}
-use Rattle.path_walk.specs.declared.trail.Trail.{Trail}
 use Rattle.path_walk.specs.declared.trail.Stage.{Stage}
 use Rattle.path_walk.specs.declared.trail.Stage.TheVariants.{Start, Walking, Making, Over}
 use Rattle.path_walk.specs.declared.call.Need.{Need}

@@ -1,6 +1,6 @@
 -- The components of a path, after POSIX.1-2017, XBD 4.13. That a path without a slash at its front starts at
 -- the root too, and the limits, are this project's own.
-use Rattle.std.specs.Prelude.{ℕ, ◌==◌, ◌-◌, if◌then◌else◌, not, nat_lt, List, [], length, map, filter, take, Option, None, Some, slice_get}
+use Rattle.std.specs.Prelude.{ℕ, ◌==◌, ◌-◌, if◌then◌else◌, not, nat_lt, List, length, map, filter, take, Option, None, Some, slice_get}
 use Rattle.std.specs.List.{slice_split}
 use Rattle.wf_core.specs.Names.{is_slash, is_dot, is_dot_dot}
 use Rattle.wf_core.specs.declared.errno.Errno.{Errno}

@@ -5,7 +5,7 @@ use Rattle.std.specs.Prelude.{ℕ, zero, suc, List, Option, None, Some, Result, 
 use Rattle.wf_core.specs.declared.errno.Errno.{Errno}
 use Rattle.wf_core.specs.declared.errno.Errno.TheVariants.{Enoent, Eexist, Enametoolong}
 use Rattle.name_store.specs.declared.operation.Node.{Node}
-use Rattle.name_store.specs.NameTrees.{Tree, Listing, dir_at, entry_at, grown}
+use Rattle.name_store.specs.NameTrees.{Listing, dir_at, entry_at, grown}
 use Rattle.path_walk.specs.declared.part.Part.{Part}
 use Rattle.path_walk.specs.declared.part.Part.TheVariants.{Here, Up, Down, TooLong}
 use Rattle.path_walk.specs.declared.call.Call.{Call}

@@ -1,5 +1,5 @@
 -- Lemmas on pieces of a text, read or written one after another.
-use Rattle.std.proofs.Common.{◌≡◌, ℕ, ◌+◌, ◌-◌, ◌≤◌, List, length, take, drop, ◌++◌, Option, None, Some, sym, ◌∙◌, ap, subst, append_assoc, length-drop, arith}
+use Rattle.std.proofs.Common.{◌≡◌, ℕ, ◌+◌, ◌-◌, List, length, take, drop, ◌++◌, Option, None, Some, sym, ◌∙◌, ap, subst, append_assoc, length-drop}
 use Rattle.std.proofs.Math.Seq.{take-length, take-add, take-append_seam}
 use Rattle.std.proofs.lemmas.List.{take-append-drop, drop-drop}
 use Rattle.std.specs.Io.KnownBytes.{Appends}

@@ -1,5 +1,4 @@
-use Rattle.std.proofs.Common.{◌≤◌, ◌+◌, length, length-drop, arith}
-use Rattle.std.proofs.lemmas.List.{length-take}
+use Rattle.std.proofs.Common.{length-drop, arith}
 use Rattle.wf_core.proofs.KnownBytes.{appends_next, rest_is}
 use Rattle.wf_core.proofs.sink.write_text.Goals as goal
 

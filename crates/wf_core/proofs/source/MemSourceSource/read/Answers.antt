@@ -1,4 +1,4 @@
-use Rattle.std.proofs.Common.{◌≡◌, ℕ, ◌+◌, ◌-◌, ◌<◌, ◌≤◌, List, length, min, take, drop, [], ◌++◌, sym, ◌∙◌, ap, arith, length-drop, length-append}
+use Rattle.std.proofs.Common.{◌≡◌, ℕ, ◌+◌, ◌-◌, ◌≤◌, List, length, take, drop, sym, ◌∙◌, ap, arith, length-drop, length-append}
 use Rattle.std.proofs.lemmas.List.{drop_all, length-take, length-take-le}
 use Rattle.wf_core.proofs.KnownBytes.{gives}
 use Rattle.wf_core.specs.Memory.{Reading}
