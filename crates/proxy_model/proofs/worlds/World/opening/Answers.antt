@@ -1,0 +1,30 @@
+use Rattle.proxy_model.proofs.Opened.{same_length, lives_wide, uses_wide, phases_opened, looks_opened, turns_opened, mail_opened, marks_opened, opened}
+use Rattle.proxy_model.proofs.worlds.World.opening.Goals as goal
+
+pub invariant_of-result : goal.invariant_of-result
+invariant_of-result c = record {
+  has_places = record {
+    sent_len = same_length _ _ _ c.in_ok-sent.ensures;
+    jobs_len = same_length _ _ _ c.in_ok-jobs.ensures;
+    notes_len = same_length _ _ _ c.in_ok-notes.ensures;
+    lives_len = lives_wide _ _ _ c.in_ok-lives.ensures;
+    turns_len = same_length _ _ _ c.in_ok-turns.ensures;
+    serving_len = same_length _ _ _ c.in_ok-serving.ensures;
+  };
+  has_senders = record {
+    phases_len = same_length _ _ _ c.in_ok-phases.ensures;
+    uses_len = same_length _ _ _ c.in_ok-uses.ensures;
+    looks_len = same_length _ _ _ c.in_ok-looks.ensures;
+    by_place = uses_wide _ _ _ c.in_ok-uses.ensures;
+  };
+  phases_in_range = phases_opened _ _ _ c.in_ok-phases.ensures;
+  looks_in_range = looks_opened _ _ _ c.in_ok-looks.ensures;
+  turns_in_range = turns_opened _ _ _ c.in_ok-turns.ensures;
+  mail_turn_in_range = λ s e. cc;
+  mail_in_range = mail_opened _ _ c.new.ensures.items;
+  marks_in_range = marks_opened _ _ _ c.in_ok-sent.ensures;
+}
+
+pub returns : goal.returns
+returns c =
+    opened _ _ _ _ _ _ _ _ _ _ _ _ c.requires.some_places c.in_ok-sent.ensures c.in_ok-jobs.ensures c.in_ok-notes.ensures c.in_ok-lives.ensures c.in_ok-turns.ensures c.in_ok-serving.ensures c.new.ensures.items c.in_ok-phases.ensures c.in_ok-uses.ensures c.in_ok-looks.ensures

@@ -1,0 +1,14 @@
+pub mod Events
+pub mod Fates
+pub mod Lists
+pub mod Mailbox
+pub mod Maps
+pub mod Parts
+pub mod Phases
+pub mod Refusals
+pub mod Runs
+pub mod Shapes
+pub mod Shown
+pub mod Sound
+pub mod Starts
+pub mod Worlds
