@@ -1,3 +1,5 @@
+ghost use Rattle.std.specs.Prelude.{◌<◌};
+
 use super::{run_on, solo_words};
 use crate::solo;
 use std::alloc::{AllocError, Global};
@@ -60,7 +62,11 @@ fn a_write_fails(rt: HostRuntime) -> Result<(), Fail> {
     for (write, end) in (0..TEXT.len()).step_by(7).enumerate() {
         let (status, out) = write_fails(rt.alloc(), 7, write as u64)?;
         assert_eq!(rt; status, RunStatus::WriteFault, "write {write}");
-        assert_eq!(rt; out.as_bytes(), &TEXT.as_bytes()[..end], "write {write}");
+        assert_eq!(rt;
+            out.as_bytes(),
+            &TEXT.as_bytes()[..end.min(TEXT.len())],
+            "write {write}"
+        );
     }
     let (status, out) = write_fails(rt.alloc(), 10, 1)?;
     assert_eq!(rt; status.number(), 4);
