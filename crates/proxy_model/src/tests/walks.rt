@@ -86,9 +86,9 @@ fn walk(rt: &(impl Abort + AllocGlobal), state: &mut u64) -> Result<u32, Fail> {
 fn stay_sound(rt: HostRuntime) -> Result<(), Fail> {
     let mut state = 1;
     let mut taken: u32 = 0;
-    for _walk in 0..10 {
+    for _walk in 0..70 {
         taken = taken.saturating_add(walk(&rt, &mut state)?);
     }
-    assert!(rt; taken > 1000, "only {taken} events were enabled");
+    assert!(rt; taken > 10_000, "only {taken} events were enabled");
     Ok(())
 }

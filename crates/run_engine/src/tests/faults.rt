@@ -122,7 +122,9 @@ fn cut_after_each_byte(rt: HostRuntime) -> Result<(), Fail> {
         let (line, _) = LINES[index];
         for count in 1..=line.len() {
             let cut = start.saturating_add(count).min(TRACE.len());
-            let (_, out) = run_on(alloc, &TRACE.as_bytes()[..cut])?;
+            let (status, out) = run_on(alloc, &TRACE.as_bytes()[..cut])?;
+            let ended = if count == line.len() { 0 } else { 1 };
+            assert_eq!(rt; status.number(), ended, "{cut}");
             assert_eq!(rt;
                 out.as_bytes(),
                 cut_text(alloc, index, count)?.as_bytes(),
@@ -150,9 +152,13 @@ fn wrong_words(rt: HostRuntime) -> Result<(), Fail> {
         assert_eq!(rt; out.as_bytes(), USAGE.as_bytes(), "{text}");
     }
     let mut src = MemSource::new(Vec::new(alloc), 1, Vec::new(alloc));
-    let mut out = MemSink::new(alloc, 4096, 4096, numbers(alloc, 0)?)?;
+    let mut out = MemSink::new(alloc, 4096, 4096, Vec::new(alloc))?;
     let status = solo(alloc, &[], &mut src, &mut out);
-    assert_eq!(rt; (status.number(), out.as_bytes().len()), (4, 0));
+    assert_eq!(rt; status.number(), 2, "no word");
+    assert_eq!(rt; out.as_bytes(), USAGE.as_bytes(), "no word");
+    let mut broken = MemSink::new(alloc, 4096, 4096, numbers(alloc, 0)?)?;
+    let status = solo(alloc, &[], &mut src, &mut broken);
+    assert_eq!(rt; (status.number(), broken.as_bytes().len()), (4, 0));
     Ok(())
 }
 
