@@ -4,3 +4,7 @@ pub mod Ranges
 pub mod Led
 pub mod Opened
 pub mod Apart
+pub mod Maps
+pub mod Living
+pub mod Moved
+pub mod References

@@ -1,5 +1,6 @@
 pub mod Events
 pub mod Fates
+pub mod Laws
 pub mod Lists
 pub mod Mailbox
 pub mod Maps

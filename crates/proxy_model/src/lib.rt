@@ -8,6 +8,7 @@ mod conditions;
 mod counts;
 mod events;
 mod job_checks;
+pub mod laws;
 mod life_checks;
 mod lives;
 mod opening;

@@ -1,0 +1,44 @@
+-- Functions changed at one number, and sums over them.
+use Rattle.std.proofs.Common.{◌≡◌, ◌≢◌, inl, inr, ℕ, zero, suc, ◌+◌, ◌<◌, ◌≤◌, refl, arith, ap, sym}
+use Rattle.std.proofs.lemmas.Bool.{cases_eq, ne_eqb, eq-eqb}
+use Rattle.proxy_model.specs.Maps.{upd, sum_below}
+
+module _ {X : Type 0} (f : ℕ → X) (p : ℕ) (x : X) where
+  pub upd_here : upd f p x p ≡ x
+  upd_here = rw (eq-eqb p p refl) refl
+
+  pub upd_else : (q : ℕ) → q ≢ p → upd f p x q ≡ f q
+  upd_else q ne = rw (ne_eqb q p ne) refl
+
+  -- what holds of the new value at p, and of the old ones elsewhere, holds
+  pub upd_case : (P : ℕ → X → Type 0) → (q : ℕ) → (q ≡ p → P q x) → (q ≢ p → P q (f q)) → P q (upd f p x q)
+  upd_case P q here other = elim (cases_eq q p) [
+    | inl same ↦ rw (eq-eqb q p same) (here same)
+    | inr ne ↦ rw (ne_eqb q p ne) (other ne)
+  ]
+
+  module _ (g : X → ℕ) where
+    sum_past : (n : ℕ) → n ≤ p → sum_below n (λ k. g (upd f p x k)) ≡ sum_below n (λ k. g (f k))
+    sum_past zero past = refl
+    sum_past (suc n) past = let e = sum_past n (omega arith) in let u = ap g (upd_else n (omega arith)) in omega arith
+
+    -- a sum changes by what it has at p
+    pub sum_upd : (n : ℕ) → p < n → sum_below n (λ k. g (upd f p x k)) + g (f p) ≡ sum_below n (λ k. g (f k)) + g x
+    sum_upd zero near = absurd (omega arith)
+    sum_upd (suc n) near = elim (cases_eq p n) [
+      | inl same ↦ let e = sum_past n (omega arith) in let u : g (upd f p x n) ≡ g x = rw (← same) (ap g upd_here) in let v : g (f p) ≡ g (f n) = rw same refl in omega arith
+      | inr other ↦ let e = sum_upd n (omega arith) in let u = ap g (upd_else n (λ e'. other (sym e'))) in omega arith
+    ]
+
+-- a term is at most the sum
+pub term_le : (n : ℕ) (g : ℕ → ℕ) (k : ℕ) → k < n → g k ≤ sum_below n g
+term_le zero g k near = absurd (omega arith)
+term_le (suc n) g k near = elim (cases_eq k n) [
+  | inl same ↦ rw same (omega arith)
+  | inr other ↦ let e = term_le n g k (omega arith) in omega arith
+]
+
+-- two sums of equal terms
+pub sum_same : (n : ℕ) (f g : ℕ → ℕ) → ((k : ℕ) → k < n → f k ≡ g k) → sum_below n f ≡ sum_below n g
+sum_same zero f g e = refl
+sum_same (suc n) f g e = let a = sum_same n f g (λ k near. e k (omega arith)) in let b = e n (omega arith) in omega arith

@@ -1,0 +1,22 @@
+-- The laws of the invariant: what each event keeps, and what holds of every run.
+use Rattle.std.specs.Prelude.{ℕ}
+use Rattle.proxy_model.specs.declared.actors.Actor.{Actor}
+use Rattle.proxy_model.specs.declared.events.Event.{Event}
+use Rattle.proxy_model.specs.declared.events.Event.TheVariants as event
+use Rattle.proxy_model.specs.Events.{Enabled, world_after}
+use Rattle.proxy_model.specs.Sound.{Sound}
+use Rattle.proxy_model.specs.Worlds.{WorldState}
+
+-- a sound world in which the event is enabled becomes a sound world
+abbrev pub Keeps : Event → Type 0
+Keeps e = (w : WorldState) → Sound w → Enabled w e → Sound (world_after w e)
+
+-- the events of references and puts
+pub record ReferencesKeep : Type 0 where
+  pub load_refs : (s : ℕ) → Keeps (event.LoadRefs s)
+  pub add_ref : (s : ℕ) → Keeps (event.AddRef s)
+  pub drop_ref : (s : ℕ) → Keeps (event.DropRef s)
+  pub take_place : (who : Actor) (p : ℕ) → Keeps (event.TakePlace who p)
+  pub put : (s p tag : ℕ) → Keeps (event.Put s p tag)
+  pub give_place : (who : Actor) (p : ℕ) → Keeps (event.GivePlace who p)
+  pub split : (who : Actor) → Keeps (event.Split who)
