@@ -8,3 +8,4 @@ pub mod Maps
 pub mod Living
 pub mod Moved
 pub mod References
+pub mod Notifying

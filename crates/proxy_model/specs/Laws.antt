@@ -20,3 +20,11 @@ pub record ReferencesKeep : Type 0 where
   pub put : (s p tag : ℕ) → Keeps (event.Put s p tag)
   pub give_place : (who : Actor) (p : ℕ) → Keeps (event.GivePlace who p)
   pub split : (who : Actor) → Keeps (event.Split who)
+
+-- the events by which a sender notifies the owner, and those of the mailbox's turn
+pub record NotifyingKeep : Type 0 where
+  pub swap_note : (s p : ℕ) → Keeps (event.SwapNote s p)
+  pub take_mail : (who : Actor) → Keeps (event.TakeMail who)
+  pub add_mail : (s : ℕ) → Keeps (event.AddMail s)
+  pub give_mail : (who : Actor) → Keeps (event.GiveMail who)
+  pub swap_mail : (s : ℕ) → Keeps (event.SwapMail s)
