@@ -9,3 +9,6 @@ pub mod Living
 pub mod Moved
 pub mod References
 pub mod Notifying
+pub mod Served
+pub mod Worked
+pub mod Executing

@@ -1,7 +1,7 @@
 -- Functions changed at one number, and sums over them.
-use Rattle.std.proofs.Common.{◌≡◌, ◌≢◌, inl, inr, ℕ, zero, suc, ◌+◌, ◌<◌, ◌≤◌, refl, arith, ap, sym}
+use Rattle.std.proofs.Common.{◌≡◌, ◌≢◌, inl, inr, ℕ, zero, suc, ◌+◌, ◌<◌, ◌≤◌, Bool, true, false, ◌&&◌, refl, arith, ap, sym}
 use Rattle.std.proofs.lemmas.Bool.{cases_eq, ne_eqb, eq-eqb}
-use Rattle.proxy_model.specs.Maps.{upd, sum_below}
+use Rattle.proxy_model.specs.Maps.{upd, bit, sum_below}
 
 module _ {X : Type 0} (f : ℕ → X) (p : ℕ) (x : X) where
   pub upd_here : upd f p x p ≡ x
@@ -42,3 +42,12 @@ term_le (suc n) g k near = elim (cases_eq k n) [
 pub sum_same : (n : ℕ) (f g : ℕ → ℕ) → ((k : ℕ) → k < n → f k ≡ g k) → sum_below n f ≡ sum_below n g
 sum_same zero f g e = refl
 sum_same (suc n) f g e = let a = sum_same n f g (λ k near. e k (omega arith)) in let b = e n (omega arith) in omega arith
+
+-- a test adds one at most
+pub bit_le : (b : Bool) → bit b ≤ 1
+bit_le true = omega arith
+bit_le false = omega arith
+
+pub bit_and_false : (b : Bool) → bit (b && false) ≡ 0
+bit_and_false true = refl
+bit_and_false false = refl

@@ -28,3 +28,14 @@ pub record NotifyingKeep : Type 0 where
   pub add_mail : (s : ℕ) → Keeps (event.AddMail s)
   pub give_mail : (who : Actor) → Keeps (event.GiveMail who)
   pub swap_mail : (s : ℕ) → Keeps (event.SwapMail s)
+
+-- the events by which the owner serves its target
+pub record ServingKeeps : Type 0 where
+  pub receive_mail : Keeps event.ReceiveMail
+  pub take_notice : (p : ℕ) → Keeps (event.TakeNotice p)
+  pub finish_mail : Keeps event.FinishMail
+  pub receive : (p : ℕ) → Keeps (event.Receive p)
+  pub direct : (p : ℕ) → Keeps (event.Direct p)
+  pub take_job : (p : ℕ) → Keeps (event.TakeJob p)
+  pub look_place : (p : ℕ) → Keeps (event.LookPlace p)
+  pub finish : (p : ℕ) → Keeps (event.Finish p)

@@ -1,6 +1,6 @@
 //! The laws of the invariant.
 
-ghost use Rattle.proxy_model.specs.Laws.{NotifyingKeep, ReferencesKeep};
+ghost use Rattle.proxy_model.specs.Laws.{NotifyingKeep, ReferencesKeep, ServingKeeps};
 
 /// The events of references and puts keep a world sound.
 pub fn references_keep()
@@ -10,4 +10,9 @@ pub fn references_keep()
 /// The events by which a sender notifies the owner keep a world sound.
 pub fn notifying_keeps()
     ensures { NotifyingKeep }
+{}
+
+/// The events by which the owner serves its target keep a world sound.
+pub fn serving_keeps()
+    ensures { ServingKeeps }
 {}
