@@ -31,7 +31,7 @@ use Rattle.proxy_model.proofs.Served.{Serves, serves}
 use Rattle.proxy_model.proofs.Worked.{Works, works}
 
 -- only the mailbox's note and what the owner knows of it change
-mail_noted : (w : WorldState) (n : Note) (checking seen_empty : Bool) → Sound w → (0 < notices w.mail → 0 < bit (is_pending n) + count_below w.senders (λ s. is_delivering (w.phase s)) + bit (checking && not seen_empty)) → Sound (record w { mail_note = n; checking = checking; seen_empty = seen_empty })
+pub mail_noted : (w : WorldState) (n : Note) (checking seen_empty : Bool) → Sound w → (0 < notices w.mail → 0 < bit (is_pending n) + count_below w.senders (λ s. is_delivering (w.phase s)) + bit (checking && not seen_empty)) → Sound (record w { mail_note = n; checking = checking; seen_empty = seen_empty })
 mail_noted w n checking seen_empty o told = record {
   refs = o.refs;
   engaged = o.engaged;

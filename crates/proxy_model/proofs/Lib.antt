@@ -12,3 +12,4 @@ pub mod Notifying
 pub mod Served
 pub mod Worked
 pub mod Executing
+pub mod Closing

@@ -38,6 +38,11 @@ term_le (suc n) g k near = elim (cases_eq k n) [
   | inr other ↦ let e = term_le n g k (omega arith) in omega arith
 ]
 
+-- a sum of terms that are at most those of another
+pub sum_le : (n : ℕ) (f g : ℕ → ℕ) → ((k : ℕ) → k < n → f k ≤ g k) → sum_below n f ≤ sum_below n g
+sum_le zero f g le = omega arith
+sum_le (suc n) f g le = let a = sum_le n f g (λ k near. le k (omega arith)) in let b = le n (omega arith) in omega arith
+
 -- two sums of equal terms
 pub sum_same : (n : ℕ) (f g : ℕ → ℕ) → ((k : ℕ) → k < n → f k ≡ g k) → sum_below n f ≡ sum_below n g
 sum_same zero f g e = refl

@@ -39,3 +39,13 @@ pub record ServingKeeps : Type 0 where
   pub take_job : (p : ℕ) → Keeps (event.TakeJob p)
   pub look_place : (p : ℕ) → Keeps (event.LookPlace p)
   pub finish : (p : ℕ) → Keeps (event.Finish p)
+
+-- the events by which the owner settles jobs and closes its target
+pub record ClosingKeeps : Type 0 where
+  pub settle_finished : (p n : ℕ) → Keeps (event.SettleFinished p n)
+  pub settle_cancelled : (p n : ℕ) → Keeps (event.SettleCancelled p n)
+  pub drop_own : Keeps event.DropOwn
+  pub look_closed : Keeps event.LookClosed
+  pub reset_place : (p : ℕ) → Keeps (event.ResetPlace p)
+  pub reset_mail : Keeps event.ResetMail
+  pub join : (s : ℕ) → Keeps (event.Join s)

@@ -1,6 +1,6 @@
 //! The laws of the invariant.
 
-ghost use Rattle.proxy_model.specs.Laws.{NotifyingKeep, ReferencesKeep, ServingKeeps};
+ghost use Rattle.proxy_model.specs.Laws.{ClosingKeeps, NotifyingKeep, ReferencesKeep, ServingKeeps};
 
 /// The events of references and puts keep a world sound.
 pub fn references_keep()
@@ -15,4 +15,9 @@ pub fn notifying_keeps()
 /// The events by which the owner serves its target keep a world sound.
 pub fn serving_keeps()
     ensures { ServingKeeps }
+{}
+
+/// The events by which the owner settles jobs and closes its target keep a world sound.
+pub fn closing_keeps()
+    ensures { ClosingKeeps }
 {}
