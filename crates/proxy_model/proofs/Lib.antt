@@ -13,3 +13,4 @@ pub mod Served
 pub mod Worked
 pub mod Executing
 pub mod Closing
+pub mod Using

@@ -49,3 +49,12 @@ pub record ClosingKeeps : Type 0 where
   pub reset_place : (p : ℕ) → Keeps (event.ResetPlace p)
   pub reset_mail : Keeps event.ResetMail
   pub join : (s : ℕ) → Keeps (event.Join s)
+
+-- the events on the lives of places
+pub record LivesKeep : Type 0 where
+  pub create : (s p : ℕ) → Keeps (event.Create s p)
+  pub clone_use : (s p : ℕ) → Keeps (event.CloneUse s p)
+  pub release_use : (s p : ℕ) → Keeps (event.ReleaseUse s p)
+  pub claim : (s p : ℕ) → Keeps (event.Claim s p)
+  pub look_note : (s p : ℕ) → Keeps (event.LookNote s p)
+  pub mark_life : (s p : ℕ) → Keeps (event.MarkLife s p)

@@ -1,6 +1,6 @@
 //! The laws of the invariant.
 
-ghost use Rattle.proxy_model.specs.Laws.{ClosingKeeps, NotifyingKeep, ReferencesKeep, ServingKeeps};
+ghost use Rattle.proxy_model.specs.Laws.{ClosingKeeps, LivesKeep, NotifyingKeep, ReferencesKeep, ServingKeeps};
 
 /// The events of references and puts keep a world sound.
 pub fn references_keep()
@@ -20,4 +20,9 @@ pub fn serving_keeps()
 /// The events by which the owner settles jobs and closes its target keep a world sound.
 pub fn closing_keeps()
     ensures { ClosingKeeps }
+{}
+
+/// The events on the lives of places keep a world sound.
+pub fn lives_keep()
+    ensures { LivesKeep }
 {}
