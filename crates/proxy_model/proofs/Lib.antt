@@ -14,3 +14,6 @@ pub mod Worked
 pub mod Executing
 pub mod Closing
 pub mod Using
+pub mod Inductive
+pub mod WellFormed
+pub mod Promised

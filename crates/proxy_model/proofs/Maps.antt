@@ -1,7 +1,7 @@
 -- Functions changed at one number, and sums over them.
 use Rattle.std.proofs.Common.{◌≡◌, ◌≢◌, inl, inr, ℕ, zero, suc, ◌+◌, ◌<◌, ◌≤◌, Bool, true, false, ◌&&◌, refl, arith, ap, sym}
 use Rattle.std.proofs.lemmas.Bool.{cases_eq, ne_eqb, eq-eqb}
-use Rattle.proxy_model.specs.Maps.{upd, bit, sum_below}
+use Rattle.proxy_model.specs.Maps.{upd, bit, sum_below, count_below}
 
 module _ {X : Type 0} (f : ℕ → X) (p : ℕ) (x : X) where
   pub upd_here : upd f p x p ≡ x
@@ -47,6 +47,26 @@ sum_le (suc n) f g le = let a = sum_le n f g (λ k near. le k (omega arith)) in 
 pub sum_same : (n : ℕ) (f g : ℕ → ℕ) → ((k : ℕ) → k < n → f k ≡ g k) → sum_below n f ≡ sum_below n g
 sum_same zero f g e = refl
 sum_same (suc n) f g e = let a = sum_same n f g (λ k near. e k (omega arith)) in let b = e n (omega arith) in omega arith
+
+pub sum_add : (n : ℕ) (f g : ℕ → ℕ) → sum_below n (λ k. f k + g k) ≡ sum_below n f + sum_below n g
+sum_add zero f g = refl
+sum_add (suc n) f g = let a = sum_add n f g in omega arith
+
+pub sum_zero : (n : ℕ) (f : ℕ → ℕ) → ((k : ℕ) → k < n → f k ≡ 0) → sum_below n f ≡ 0
+sum_zero zero f e = refl
+sum_zero (suc n) f e = let a = sum_zero n f (λ k near. e k (omega arith)) in let b = e n (omega arith) in omega arith
+
+pub sum_ones : (n : ℕ) (f : ℕ → ℕ) → ((k : ℕ) → k < n → f k ≡ 1) → sum_below n f ≡ n
+sum_ones zero f e = refl
+sum_ones (suc n) f e = let a = sum_ones n f (λ k near. e k (omega arith)) in let b = e n (omega arith) in omega arith
+
+-- a test that some pass is passed by one of them
+pub count_some : (n : ℕ) (t : ℕ → Bool) → 0 < count_below n t → (k : ℕ) × (k < n) × (t k ≡ true)
+count_some zero t some = absurd (omega arith)
+count_some (suc n) t some = by_last (t n) refl (λ before. count_some n t before) where
+  by_last : (b : Bool) → t n ≡ b → (0 < count_below n t → (k : ℕ) × (k < n) × (t k ≡ true)) → (k : ℕ) × (k < suc n) × (t k ≡ true)
+  by_last true is earlier = (n, omega arith, is)
+  by_last false is earlier = let none : bit (t n) ≡ 0 = rw is refl in let found = earlier (omega arith) in (found.0, (let near = found.1 in omega arith), found.2)
 
 -- a test adds one at most
 pub bit_le : (b : Bool) → bit b ≤ 1

@@ -1,11 +1,12 @@
 -- The laws of the invariant: what each event keeps, and what holds of every run.
-use Rattle.std.specs.Prelude.{ℕ}
+use Rattle.std.specs.Prelude.{ℕ, ◌≤◌, List}
 use Rattle.proxy_model.specs.declared.actors.Actor.{Actor}
 use Rattle.proxy_model.specs.declared.events.Event.{Event}
 use Rattle.proxy_model.specs.declared.events.Event.TheVariants as event
 use Rattle.proxy_model.specs.Events.{Enabled, world_after}
+use Rattle.proxy_model.specs.Runs.{Leads}
 use Rattle.proxy_model.specs.Sound.{Sound}
-use Rattle.proxy_model.specs.Worlds.{WorldState}
+use Rattle.proxy_model.specs.Worlds.{WorldState, IsWellFormed, opening_world}
 
 -- a sound world in which the event is enabled becomes a sound world
 abbrev pub Keeps : Event → Type 0
@@ -58,3 +59,16 @@ pub record LivesKeep : Type 0 where
   pub claim : (s p : ℕ) → Keeps (event.Claim s p)
   pub look_note : (s p : ℕ) → Keeps (event.LookNote s p)
   pub mark_life : (s p : ℕ) → Keeps (event.MarkLife s p)
+
+-- a target is made sound
+abbrev pub OpeningIsSound : Type 0
+OpeningIsSound = (senders places : ℕ) → 1 ≤ senders → Sound (opening_world senders places)
+
+-- a run leads from a sound world to a sound one
+abbrev pub RunsKeepSound : Type 0
+RunsKeepSound = (w : WorldState) (events : List Event) (end : WorldState) → Sound w → Leads w events end → Sound end
+
+-- a target is made well formed, and stays so
+pub record WorldsAreWellFormed : Type 0 where
+  pub opening : (senders places : ℕ) → IsWellFormed (opening_world senders places)
+  pub kept : (w : WorldState) (e : Event) → IsWellFormed w → Enabled w e → IsWellFormed (world_after w e)

@@ -6,6 +6,7 @@ pub mod Mailbox
 pub mod Maps
 pub mod Parts
 pub mod Phases
+pub mod Promises
 pub mod Refusals
 pub mod Runs
 pub mod Shapes

@@ -76,14 +76,17 @@ IsAwayEverywhere w = (p : ℕ) → p < w.places → w.serving p ≡ serving.Away
 abbrev pub IsEmptied : WorldState → ℕ → Type 0
 IsEmptied w p = (w.owner ≡ owner.Closed) × (w.serving p ≢ serving.Away) × (put w p ≤ taken w p)
 
--- senders and places that the world names are there
-pub record IsWellFormed (w : WorldState) : Type 0 where
-  pub phases : (s p : ℕ) → IsTrue (names p (w.phase s)) → p < w.places
-  pub looks : (s p : ℕ) → IsTrue (looks_at p (w.look s)) → p < w.places
-  pub turns : (p s : ℕ) → w.turn p ≡ Some (actor.Sender s) → s < w.senders
-  pub mail_turn : (s : ℕ) → w.mail_turn ≡ Some (actor.Sender s) → s < w.senders
-  pub mail : (p : ℕ) → 0 < times p w.mail → p < w.places
-  pub marks : (p s : ℕ) → 0 < count_by (is_by s) (w.sent p) → s < w.senders
+-- the senders and places that a world names are there
+pub record NamesAreThere (senders places : ℕ) (phase : ℕ → Phase) (look : ℕ → Look) (turn : ℕ → Option Actor) (mail_turn : Option Actor) (mail : Mailbox) (sent : ℕ → List Mark) : Type 0 where
+  pub phases : (s p : ℕ) → IsTrue (names p (phase s)) → p < places
+  pub looks : (s p : ℕ) → IsTrue (looks_at p (look s)) → p < places
+  pub turns : (p s : ℕ) → turn p ≡ Some (actor.Sender s) → s < senders
+  pub mail_turn_there : (s : ℕ) → mail_turn ≡ Some (actor.Sender s) → s < senders
+  pub notices : (p : ℕ) → 0 < times p mail → p < places
+  pub marks : (p s : ℕ) → 0 < count_by (is_by s) (sent p) → s < senders
+
+abbrev pub IsWellFormed : WorldState → Type 0
+IsWellFormed w = NamesAreThere w.senders w.places w.phase w.look w.turn w.mail_turn w.mail w.sent
 
 -- the world as a target is made: one reference, which is the owner's, and of places the system queue alone,
 -- of which each sender has one use

@@ -1,6 +1,8 @@
-//! The laws of the invariant.
+//! What a user may conclude from the definitions of worlds and events. The functions do nothing: each
+//! clause is a law.
 
-ghost use Rattle.proxy_model.specs.Laws.{ClosingKeeps, LivesKeep, NotifyingKeep, ReferencesKeep, ServingKeeps};
+ghost use Rattle.proxy_model.specs.Laws.{ClosingKeeps, LivesKeep, NotifyingKeep, OpeningIsSound, ReferencesKeep, RunsKeepSound, ServingKeeps, WorldsAreWellFormed};
+ghost use Rattle.proxy_model.specs.Promises.{NoSenderAfterClose, NoticesFindRoom, NothingIsLost, PlacesComeFree};
 
 /// The events of references and puts keep a world sound.
 pub fn references_keep()
@@ -25,4 +27,39 @@ pub fn closing_keeps()
 /// The events on the lives of places keep a world sound.
 pub fn lives_keep()
     ensures { LivesKeep }
+{}
+
+/// A target is made sound.
+pub fn opening_is_sound()
+    ensures { OpeningIsSound }
+{}
+
+/// A run leads from a sound world to a sound one.
+pub fn runs_keep_sound()
+    ensures { RunsKeepSound }
+{}
+
+/// A target is made well formed, and every event keeps it so.
+pub fn worlds_are_well_formed()
+    ensures { WorldsAreWellFormed }
+{}
+
+/// Once the owner is closed no sender has or gets a reference, puts, swaps a note or adds a notice.
+pub fn no_sender_after_close()
+    ensures { NoSenderAfterClose }
+{}
+
+/// A free place has nothing waiting and no use and, while its target is not closed, no notice.
+pub fn places_come_free()
+    ensures { PlacesComeFree }
+{}
+
+/// A mailbox with as many cells as places has room for each notice.
+pub fn notices_find_room()
+    ensures { NoticesFindRoom }
+{}
+
+/// Where a job waits, somebody sees to it.
+pub fn nothing_is_lost()
+    ensures { NothingIsLost }
 {}

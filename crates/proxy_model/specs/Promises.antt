@@ -1,0 +1,83 @@
+-- What the invariant promises to those who use a target.
+use Rattle.std.specs.Prelude.{◌≡◌, ◌≢◌, ℕ, ◌<◌, ◌≤◌, Bool, true, false, IsTrue, List, All}
+use Rattle.proxy_model.specs.declared.actors.Actor.{Actor}
+use Rattle.proxy_model.specs.declared.actors.Actor.TheVariants as actor
+use Rattle.proxy_model.specs.declared.actors.Note.TheVariants as note
+use Rattle.proxy_model.specs.declared.actors.OwnerState.TheVariants as owner
+use Rattle.proxy_model.specs.declared.actors.Phase.TheVariants as phase
+use Rattle.proxy_model.specs.declared.events.Event.{Event}
+use Rattle.proxy_model.specs.declared.events.Event.TheVariants as event
+use Rattle.proxy_model.specs.Events.{Enabled}
+use Rattle.proxy_model.specs.Mailbox.{times, notices}
+use Rattle.proxy_model.specs.Phases.{is_delivering, is_executing, is_executing_notice, is_got, is_messenger_at, owes_note_at}
+use Rattle.proxy_model.specs.Runs.{Leads}
+use Rattle.proxy_model.specs.Sound.{Sound, bearers}
+use Rattle.proxy_model.specs.Worlds.{WorldState, IsWellFormed, put, taken}
+
+-- the actor is a sender
+abbrev pub is_sender : Actor → Bool
+is_sender (actor.Sender s) = true
+is_sender actor.Owner = false
+
+-- a sender gets or gives back a reference, takes a turn, puts, swaps a note, or adds a notice
+abbrev pub is_send : Event → Bool
+is_send (event.AddRef s) = true
+is_send (event.DropRef s) = true
+is_send (event.TakePlace who p) = is_sender who
+is_send (event.Put s p tag) = true
+is_send (event.SwapNote s p) = true
+is_send (event.TakeMail who) = is_sender who
+is_send (event.AddMail s) = true
+is_send (event.SwapMail s) = true
+is_send _ = false
+
+-- the target is closed, and no sender has a reference
+pub record IsShut (w : WorldState) : Type 0 where
+  pub closed : w.owner ≡ owner.Closed
+  pub no_reference : w.refs ≡ 0
+  pub idle : (s : ℕ) → s < w.senders → w.phase s ≡ phase.Idle
+
+-- Once the owner is closed no sender has or gets a reference, puts, swaps a note or adds a notice,
+-- whatever comes.
+abbrev pub NoSenderAfterClose : Type 0
+NoSenderAfterClose = (w : WorldState) (events : List Event) (end : WorldState) → Sound w → w.owner ≡ owner.Closed → Leads w events end → IsShut end × All (λ e. is_send e ≡ false) events
+
+-- nothing waits at the place and nobody uses it; while the owner is not closed, nothing bears a notice of it
+pub record IsBare (w : WorldState) (p : ℕ) : Type 0 where
+  pub none_waits : put w p ≤ taken w p
+  pub no_use : (s : ℕ) → s < w.senders → w.uses s p ≡ 0
+  pub no_notice : w.owner ≢ owner.Closed → (w.note p ≡ note.None) × (bearers w.senders w.phase w.mail (w.serving p) p ≡ 0)
+
+-- A place that is free is bare, so whoever creates it begins anew.
+abbrev pub PlacesComeFree : Type 0
+PlacesComeFree = (w : WorldState) (p : ℕ) → Sound w → p < w.places → w.life p ≡ 0 → IsBare w p
+
+-- A mailbox with as many cells as there are places has one free wherever a notice may be added.
+abbrev pub NoticesFindRoom : Type 0
+NoticesFindRoom = (w : WorldState) (s : ℕ) → IsWellFormed w → Sound w → Enabled w (event.AddMail s) → notices w.mail < w.places
+
+-- why the owner will look into its mailbox: the mailbox's note is pending, a sender that has added a
+-- notice is still to set it, or the owner is checking and has not seen the mailbox empty
+pub data IsMailTold (w : WorldState) : Type 0 where
+  noted : w.mail_note ≡ note.Pending → IsMailTold w
+  delivered : (s : ℕ) → s < w.senders → IsTrue (is_delivering (w.phase s)) → IsMailTold w
+  checked : w.checking ≡ true → w.seen_empty ≡ false → IsMailTold w
+
+-- who sees to the jobs that wait at p
+pub data IsMinded (w : WorldState) (p : ℕ) : Type 0 where
+  -- a sender that still owes a notification
+  owed : (s : ℕ) → s < w.senders → IsTrue (owes_note_at p (w.phase s)) → IsMinded w p
+  -- a messenger, on its way to the mailbox
+  brought : (s : ℕ) → s < w.senders → IsTrue (is_messenger_at p (w.phase s)) → IsMinded w p
+  -- a notice in the mailbox, of which the owner is told
+  mailed : 0 < times p w.mail → IsMailTold w → IsMinded w p
+  -- the owner, which has got the notice
+  got : IsTrue (is_got (w.serving p)) → IsMinded w p
+  -- the owner, which executes the place under a notice
+  executed : IsTrue (is_executing_notice (w.serving p)) → IsMinded w p
+  -- a closed owner, which empties the place
+  emptied : w.owner ≡ owner.Closed → IsTrue (is_executing (w.serving p)) → IsMinded w p
+
+-- No notification is lost: where a job waits, somebody sees to it. That they come to it is not said.
+abbrev pub NothingIsLost : Type 0
+NothingIsLost = (w : WorldState) (p : ℕ) → Sound w → p < w.places → taken w p < put w p → IsMinded w p
