@@ -30,7 +30,7 @@ use Rattle.proxy_model.proofs.Served.{Serves, serves}
 use Rattle.proxy_model.proofs.Worked.{Works, works}
 
 -- settling a job leaves how each was started
-started_kept : (jobs : List Job) (n : ℕ) (f : FateMark) (k : ℕ) (d : Job) → n < length jobs → (get_or (with_fate jobs n f) k d).started ≡ (get_or jobs k d).started
+pub started_kept : (jobs : List Job) (n : ℕ) (f : FateMark) (k : ℕ) (d : Job) → n < length jobs → (get_or (with_fate jobs n f) k d).started ≡ (get_or jobs k d).started
 started_kept jobs n f k d near = elim (cases_eq k n) [
   | inl same ↦ rw (same, get_or-set_same jobs n (record { started = (job_at jobs n).started; fate = Some f }) d near) (ap (λ (job : Job). job.started) (get_or_default jobs n (active_job started.Direct) d near))
   | inr ne ↦ ap (λ (job : Job). job.started) (get_or-set_other jobs n k (record { started = (job_at jobs n).started; fate = Some f }) d ne)

@@ -17,3 +17,5 @@ pub mod Using
 pub mod Inductive
 pub mod WellFormed
 pub mod Promised
+pub mod Kept
+pub mod Recorded

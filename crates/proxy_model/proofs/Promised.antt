@@ -11,6 +11,7 @@ use Rattle.proxy_model.specs.declared.actors.OwnerState.{OwnerState}
 use Rattle.proxy_model.specs.declared.actors.OwnerState.TheVariants as owner
 use Rattle.proxy_model.specs.declared.actors.Phase.{Phase}
 use Rattle.proxy_model.specs.declared.actors.Phase.TheVariants as phase
+use Rattle.proxy_model.specs.declared.actors.Serving.{Serving}
 use Rattle.proxy_model.specs.declared.events.Event.{Event}
 use Rattle.proxy_model.specs.declared.events.Event.TheVariants as event
 use Rattle.proxy_model.specs.Events.{Enabled, world_after}
@@ -131,9 +132,10 @@ closed_minded w p o c some = elim (some_of (times p w.mail + bit (is_got (w.serv
   | inr executing ↦ emptied c (passes (is_executing (w.serving p)) executing)
 ]
 
-right_of : (a b : Bool) → 0 < bit (a && b) → IsTrue b
-right_of true b some = passes b some
-right_of false b some = absurd (omega arith)
+executing_of : (n : Note) (at_place : Serving) → 0 < bit (is_received n && is_executing_notice at_place) → (n ≡ note.Received) × IsTrue (is_executing_notice at_place)
+executing_of note.Received at_place some = (refl, passes (is_executing_notice at_place) some)
+executing_of note.None at_place some = absurd (omega arith)
+executing_of note.Pending at_place some = absurd (omega arith)
 
 open_minded : (w : WorldState) (p : ℕ) → Sound w → p < w.places → w.owner ≢ owner.Closed → taken w p < put w p → IsMinded w p
 open_minded w p o place ne waits = elim (some_of (bit (is_pending (w.note p)) + count_below w.senders (λ s. owes_note_at p (w.phase s))) (bit (is_received (w.note p) && is_executing_notice (w.serving p))) (o.announced p place waits)) [
@@ -141,7 +143,7 @@ open_minded w p o place ne waits = elim (some_of (bit (is_pending (w.note p)) + 
     | inl pending ↦ borne_minded w p o (let once = (o.borne p place).open_once ne in omega arith)
     | inr owing ↦ let one = count_some w.senders (λ s. owes_note_at p (w.phase s)) owing in owed one.0 one.1 one.2
   ]
-  | inr executing ↦ executed (right_of (is_received (w.note p)) (is_executing_notice (w.serving p)) executing)
+  | inr executing ↦ let both = executing_of (w.note p) (w.serving p) executing in executed both.0 both.1
 ]
 
 pub nothing_is_lost : NothingIsLost

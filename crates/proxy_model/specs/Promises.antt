@@ -1,5 +1,5 @@
 -- What the invariant promises to those who use a target.
-use Rattle.std.specs.Prelude.{◌≡◌, ◌≢◌, ℕ, ◌<◌, ◌≤◌, Bool, true, false, IsTrue, List, All}
+use Rattle.std.specs.Prelude.{◌≡◌, ◌≢◌, ℕ, ◌<◌, ◌≤◌, Bool, true, false, IsTrue, List, All, slice_index_or}
 use Rattle.proxy_model.specs.declared.actors.Actor.{Actor}
 use Rattle.proxy_model.specs.declared.actors.Actor.TheVariants as actor
 use Rattle.proxy_model.specs.declared.actors.Note.TheVariants as note
@@ -7,7 +7,12 @@ use Rattle.proxy_model.specs.declared.actors.OwnerState.TheVariants as owner
 use Rattle.proxy_model.specs.declared.actors.Phase.TheVariants as phase
 use Rattle.proxy_model.specs.declared.events.Event.{Event}
 use Rattle.proxy_model.specs.declared.events.Event.TheVariants as event
+use Rattle.proxy_model.specs.declared.records.JobRecord.{JobRecord}
+use Rattle.proxy_model.specs.declared.records.Mark.{Mark}
+use Rattle.proxy_model.specs.declared.records.PostRecord.{PostRecord}
 use Rattle.proxy_model.specs.Events.{Enabled}
+use Rattle.proxy_model.specs.Fates.{AreRecordsOf, IsRecordOf, IsSettled, LawfulPost, MayBecome, fate_of}
+use Rattle.proxy_model.specs.Lists.{job_at}
 use Rattle.proxy_model.specs.Mailbox.{times, notices}
 use Rattle.proxy_model.specs.Phases.{is_delivering, is_executing, is_executing_notice, is_got, is_messenger_at, owes_note_at}
 use Rattle.proxy_model.specs.Runs.{Leads}
@@ -73,11 +78,26 @@ pub data IsMinded (w : WorldState) (p : ℕ) : Type 0 where
   mailed : 0 < times p w.mail → IsMailTold w → IsMinded w p
   -- the owner, which has got the notice
   got : IsTrue (is_got (w.serving p)) → IsMinded w p
-  -- the owner, which executes the place under a notice
-  executed : IsTrue (is_executing_notice (w.serving p)) → IsMinded w p
+  -- the owner, which executes the place under a notice that it has received
+  executed : w.note p ≡ note.Received → IsTrue (is_executing_notice (w.serving p)) → IsMinded w p
   -- a closed owner, which empties the place
   emptied : w.owner ≡ owner.Closed → IsTrue (is_executing (w.serving p)) → IsMinded w p
 
 -- No notification is lost: where a job waits, somebody sees to it. That they come to it is not said.
 abbrev pub NothingIsLost : Type 0
 NothingIsLost = (w : WorldState) (p : ℕ) → Sound w → p < w.places → taken w p < put w p → IsMinded w p
+
+-- what a run leaves of job number n at p: its mark, its start once it was taken, and its fate once it is settled
+pub record IsJobKept (old new : WorldState) (p n : ℕ) : Type 0 where
+  pub mark : (d : Mark) → n < put old p → (n < put new p) × (slice_index_or (new.sent p) n d ≡ slice_index_or (old.sent p) n d)
+  pub start : n < taken old p → (n < taken new p) × ((job_at (new.jobs p) n).started ≡ (job_at (old.jobs p) n).started)
+  pub fate : MayBecome (fate_of old p n) (fate_of new p n)
+
+-- A job has one fate, and it never changes.
+abbrev pub JobsAreKept : Type 0
+JobsAreKept = (w : WorldState) (events : List Event) (end : WorldState) (p n : ℕ) → Leads w events end → IsJobKept w end p n
+
+-- A world whose jobs are all settled has its record, and that is a lawful one.
+pub record RecordsAreLawful : Type 0 where
+  pub there : (w : WorldState) (p : ℕ) → Sound w → IsSettled w → p < w.places → (records : List JobRecord) × AreRecordsOf (w.sent p) (w.jobs p) records
+  pub lawful : (w : WorldState) (r : PostRecord) → Sound w → IsRecordOf w r → LawfulPost r

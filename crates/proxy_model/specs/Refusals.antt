@@ -124,6 +124,6 @@ pub record CanStep (w : WorldState) (e : Event) : Type 0 where
 
 -- the refusal is the right one; want of memory alone may meet an event that can come
 abbrev pub IsRefusal : WorldState → Event → StepRefusal → Type 0
-IsRefusal w e (refusal.NotEnabled why) = why_not w e ≡ Some why
+IsRefusal w e (refusal.NotEnabled why) = (why_not w e ≡ Some why) × (Enabled w e → ⊥)
 IsRefusal w e refusal.AtLast = Enabled w e × (is_at_last w e ≡ true)
 IsRefusal w e refusal.NoMemory = CanStep w e

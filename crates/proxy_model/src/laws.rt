@@ -2,7 +2,11 @@
 //! clause is a law.
 
 ghost use Rattle.proxy_model.specs.Laws.{ClosingKeeps, LivesKeep, NotifyingKeep, OpeningIsSound, ReferencesKeep, RunsKeepSound, ServingKeeps, WorldsAreWellFormed};
-ghost use Rattle.proxy_model.specs.Promises.{NoSenderAfterClose, NoticesFindRoom, NothingIsLost, PlacesComeFree};
+ghost use Rattle.proxy_model.specs.Shown.{world_of};
+ghost use Rattle.proxy_model.specs.Worlds.{IsWellFormed};
+ghost use Rattle.proxy_model.specs.Promises.{JobsAreKept, NoSenderAfterClose, NoticesFindRoom, NothingIsLost, PlacesComeFree, RecordsAreLawful};
+
+use crate::worlds::World;
 
 /// The events of references and puts keep a world sound.
 pub fn references_keep()
@@ -44,6 +48,11 @@ pub fn worlds_are_well_formed()
     ensures { WorldsAreWellFormed }
 {}
 
+/// Every world names only its own senders and places.
+pub fn world_is_well_formed(world: &World)
+    ensures { IsWellFormed (world_of world.now) }
+{}
+
 /// Once the owner is closed no sender has or gets a reference, puts, swaps a note or adds a notice.
 pub fn no_sender_after_close()
     ensures { NoSenderAfterClose }
@@ -62,4 +71,14 @@ pub fn notices_find_room()
 /// Where a job waits, somebody sees to it.
 pub fn nothing_is_lost()
     ensures { NothingIsLost }
+{}
+
+/// A job keeps its mark and its start, and once it is settled its fate.
+pub fn jobs_are_kept()
+    ensures { JobsAreKept }
+{}
+
+/// A world whose jobs are all settled has its record, and that is a lawful one.
+pub fn records_are_lawful()
+    ensures { RecordsAreLawful }
 {}

@@ -8,7 +8,7 @@ mod conditions;
 mod counts;
 mod events;
 mod job_checks;
-pub mod laws;
+mod laws;
 mod life_checks;
 mod lives;
 mod opening;
@@ -25,6 +25,11 @@ mod worlds;
 
 pub use actors::{Actor, Look, Note, OwnerState, Phase, Serving};
 pub use events::{Event, StepRefusal, Why};
+pub use laws::{
+    closing_keeps, jobs_are_kept, lives_keep, no_sender_after_close, nothing_is_lost,
+    notices_find_room, notifying_keeps, opening_is_sound, places_come_free, records_are_lawful,
+    references_keep, runs_keep_sound, serving_keeps, world_is_well_formed, worlds_are_well_formed,
+};
 pub use records::{FateMark, Job, JobRecord, Mark, PlaceRecord, PostRecord, Started};
 pub use runs::run;
 pub use worlds::World;

@@ -2,6 +2,7 @@
 
 ghost use Rattle.std.specs.Prelude.{◌≡◌, ℕ, ◌+◌, ◌<◌, ◌≤◌, ◌==◌, if◌then◌else◌, [], length, IfOk, replicate, slice_set};
 ghost use Rattle.proxy_model.specs.Shown.{world_of};
+ghost use Rattle.proxy_model.specs.Sound.{Sound};
 ghost use Rattle.proxy_model.specs.Worlds.{opening_world};
 
 use crate::actors::{Look, Note, OwnerState, Phase, Serving};
@@ -82,7 +83,8 @@ impl World {
         requires few_senders { senders ≤ 64 }
         requires some_places { 1 ≤ places }
         requires few_places { places ≤ 256 }
-        ensures { IfOk result (λ w. world_of w ≡ opening_world senders places) }
+        ensures opened { IfOk result (λ w. world_of w ≡ opening_world senders places) }
+        ensures sound { IfOk result (λ w. Sound (world_of w)) }
     {
         let sent = no_marks(alloc, places)?;
         let jobs = no_jobs(alloc, places)?;

@@ -3,6 +3,7 @@
 ghost use Rattle.std.specs.Prelude.{OnOk, IfErr};
 ghost use Rattle.proxy_model.specs.Runs.{Leads, StopsAt};
 ghost use Rattle.proxy_model.specs.Shown.{world_of};
+ghost use Rattle.proxy_model.specs.Sound.{Sound};
 
 use crate::events::{Event, StepRefusal};
 use crate::worlds::World;
@@ -11,6 +12,8 @@ use crate::worlds::World;
 pub fn run(world: &mut World, events: &[Event]) -> Result<(), (usize, StepRefusal)>
     ensures ok { OnOk result (Leads (world_of world.old) events.now (world_of world.new)) }
     ensures stops { IfErr result (λ at. StopsAt (world_of world.old) events.now at.0 at.1 (world_of world.new)) }
+    // Whatever the events, and whether they were accepted.
+    ensures sound { Sound (world_of world.old) → Sound (world_of world.new) }
 {
     for (index, event) in events.iter().enumerate() {
         if let Err(refusal) = world.step(event) {

@@ -6,6 +6,7 @@ ghost use Rattle.proxy_model.specs.Refusals.{CanStep, IsRefusal, is_at_last, is_
 ghost use Rattle.proxy_model.specs.Runs.{StepsBy};
 ghost use Rattle.proxy_model.specs.declared.events.StepRefusal.TheVariants as refusal;
 ghost use Rattle.proxy_model.specs.Shown.{world_of};
+ghost use Rattle.proxy_model.specs.Sound.{Sound};
 
 use crate::actors::Actor;
 use crate::events::{Event, StepRefusal};
@@ -141,6 +142,7 @@ impl World {
         // The first condition that fails, or a counter at its end.
         ensures refused { IfErr result (IsRefusal (world_of self.old) event.now) }
         ensures err { OnErr result (world_of self.new ≡ world_of self.old) }
+        ensures sound { Sound (world_of self.old) → Sound (world_of self.new) }
         // Want of memory alone is free.
         ensures accepts { CanStep (world_of self.old) event.now → IsOk result ⊎ IsErrOf result refusal.NoMemory }
     {

@@ -1,3 +1,6 @@
+use Rattle.std.proofs.Common.{sym, subst}
+use Rattle.proxy_model.specs.Sound.{Sound}
+use Rattle.proxy_model.proofs.Inductive.{opening_is_sound}
 use Rattle.proxy_model.proofs.Opened.{same_length, lives_wide, uses_wide, phases_opened, looks_opened, turns_opened, mail_opened, marks_opened, opened}
 use Rattle.proxy_model.proofs.worlds.World.opening.Goals as goal
 
@@ -25,6 +28,9 @@ invariant_of-result c = record {
   marks_in_range = marks_opened _ _ _ c.in_ok-sent.ensures;
 }
 
-pub returns : goal.returns
-returns c =
+pub returns-clause-opened : goal.returns-clause-opened
+returns-clause-opened c =
     opened _ _ _ _ _ _ _ _ _ _ _ _ c.requires.some_places c.in_ok-sent.ensures c.in_ok-jobs.ensures c.in_ok-notes.ensures c.in_ok-lives.ensures c.in_ok-turns.ensures c.in_ok-serving.ensures c.new.ensures.items c.in_ok-phases.ensures c.in_ok-uses.ensures c.in_ok-looks.ensures
+
+pub returns-clause-sound : goal.returns-clause-sound
+returns-clause-sound c = subst Sound (sym (returns-clause-opened c)) (opening_is_sound c.args.senders c.args.places c.requires.some_senders)
