@@ -17,7 +17,7 @@ use Rattle.proxy_model.specs.Phases.{is_idle, names, has_turn_at, owes_note_at, 
 use Rattle.proxy_model.specs.Sound.{Sound, IsAnnounced, IsBorne, IsServed, IsQuiet}
 use Rattle.proxy_model.specs.Worlds.{WorldState}
 use Rattle.proxy_model.proofs.Living.{saw_looks, looked_unused, named_lives}
-use Rattle.proxy_model.proofs.Maps.{upd_case, term_le}
+use Rattle.proxy_model.proofs.Maps.{upd_case, bit_le}
 use Rattle.proxy_model.proofs.Moved.{count_moved, refs_moved, engaged_moved, announced_moved, borne_moved, mail_moved, held_moved, few_moved}
 use Rattle.proxy_model.proofs.Ranges.{times-push}
 use Rattle.proxy_model.proofs.References.{has_reference}
@@ -174,7 +174,7 @@ adds w s p o near is = record {
   announced = λ q at. announced_moved w.senders w.phase s (phase.Messenger p) (phase.Delivering p) near is (w.sent q) (w.jobs q) (w.note q) (w.serving q) q (omega arith) (o.announced q at);
   borne = λ q at. record {
     open_once = λ not_closed. let m = moved q in let once = (o.borne q at).open_once not_closed in let t = more q in omega arith;
-    no_twice = let m = moved q in let once = (o.borne q at).open_once not_closed in let t = more q in let b = (o.borne q at).no_twice in let l = term_le w.senders (λ r. bit (is_messenger_at q (w.phase r))) s near in let g = ap (λ ph. bit (is_messenger_at q ph)) is in at_most_one (w.note q) (omega arith);
+    no_twice = let m = moved q in let once = (o.borne q at).open_once not_closed in let t = more q in let most = bit_le (is_pending (w.note q)) in omega arith;
     closed = λ c. absurd (not_closed c);
   };
   served = o.served;
@@ -196,11 +196,6 @@ adds w s p o near is = record {
 
   more : (q : ℕ) → times q (w.mail ++ p ∷ []) ≡ times q w.mail + bit (p == q)
   more q = times-push q p w.mail
-
-  at_most_one : {t : ℕ} (n : Note) → t ≤ bit (is_pending n) → t ≤ 1
-  at_most_one note.None le = omega arith
-  at_most_one note.Pending le = omega arith
-  at_most_one note.Received le = omega arith
 
 pub add_mail_keeps : (s : ℕ) → Keeps (event.AddMail s)
 add_mail_keeps s w o e = let of = messenger_of (w.phase s) e.conditions.0 in
