@@ -1,8 +1,8 @@
 -- The events by which the owner serves its target keep a world sound.
-use Rattle.std.proofs.Common.{◌≡◌, ◌≢◌, ◌⊎◌, inl, inr, ℕ, ◌+◌, ◌<◌, ◌≤◌, ◌==◌, Bool, true, false, cond, ◌||◌, [], ◌∷◌, ◌++◌, length, length-append, refl, arith, ap, sym, subst, ◌∙◌}
+use Rattle.std.proofs.Common.{◌≡◌, ◌≢◌, ◌⊎◌, inl, inr, ℕ, ◌+◌, ◌<◌, ◌≤◌, ◌==◌, Bool, true, false, ◌||◌, [], ◌∷◌, ◌++◌, length, length-append, refl, arith, ap, sym, subst, ◌∙◌}
 use Rattle.std.specs.Prelude.{not, IsTrue, ◌&&◌}
 use Rattle.std.specs.List.{list_any}
-use Rattle.std.proofs.lemmas.Bool.{or_cases, or_left, or_right, eqb-true, eq-eqb, ne_eqb}
+use Rattle.std.proofs.lemmas.Bool.{or_cases, or_left, or_right, eqb-true, eq-eqb}
 use Rattle.std.proofs.lemmas.List.Elements.{All-push}
 use Rattle.std.proofs.lemmas.List.Folds.{list_any-append}
 use Rattle.std.proofs.lemmas.List.Quantifiers.{all_pairs_push}
@@ -24,9 +24,9 @@ use Rattle.proxy_model.specs.Phases.{is_got, is_executing_notice, is_seen_empty,
 use Rattle.proxy_model.specs.Sound.{Sound, IsAnnounced, IsBorne, IsBorneClosed, IsServed, IsLawfulJob, bearers, uses_notice}
 use Rattle.proxy_model.specs.Starts.{is_notice, MayFollow}
 use Rattle.proxy_model.specs.Worlds.{WorldState}
-use Rattle.std.proofs.lemmas.List.Sums.{sum_by-append}
 use Rattle.proxy_model.proofs.Apart.{started_some}
-use Rattle.proxy_model.proofs.Maps.{upd_case, upd_here, upd_else, bit_le, bit_and_false}
+use Rattle.proxy_model.proofs.Maps.{bit_here, bit_elsewhere, upd_case, upd_here, upd_else, bit_le, bit_and_false}
+use Rattle.proxy_model.proofs.Ranges.{times-cons}
 use Rattle.proxy_model.proofs.Served.{Serves, serves}
 use Rattle.proxy_model.proofs.Worked.{Works, works}
 
@@ -288,7 +288,7 @@ record IsFirst (p : ℕ) (mail : Mailbox) : Type 0 where
 
 is_first_notice : (p : ℕ) (mail : Mailbox) → IsTrue (is_first p mail) → IsFirst p mail
 is_first_notice p [] is = absurd (cc)
-is_first_notice p (q ∷ rest) is = rw (← (eqb-true q p is)) (record { count = λ r. omega (arith, sum_by-append (λ k. cond (k == r) 1 0) (q ∷ []) rest); many = omega arith })
+is_first_notice p (q ∷ rest) is = rw (← (eqb-true q p is)) (record { count = λ r. times-cons r q rest; many = omega arith })
 
 -- a place in the mailbox has not the note received
 pub mailed_not_received : (w : WorldState) (p : ℕ) → Sound w → p < w.places → 0 < times p w.mail → w.note p ≢ note.Received
@@ -345,7 +345,7 @@ take_notice_keeps p w o e = record {
   first = is_first_notice p w.mail e.conditions.1
 
   here_count : times p w.mail ≡ times p (without_first w.mail) + 1
-  here_count = let one : bit (p == p) ≡ 1 = rw (eq-eqb p p refl) refl in let c = first.count p in omega arith
+  here_count = let one = bit_here p in let c = first.count p in omega arith
 
   was_mailed : 0 < times p w.mail
   was_mailed = let c = here_count in omega arith
@@ -365,7 +365,7 @@ take_notice_keeps p w o e = record {
   }
 
   other_borne : (q : ℕ) → q < w.places → q ≢ p → IsBorne w.senders w.owner w.phase (w.sent q) (w.jobs q) (without_first w.mail) (w.note q) (w.serving q) q
-  other_borne q at ne = let b = o.borne q at in let none : bit (p == q) ≡ 0 = rw (ne_eqb p q (λ same. ne (sym same))) refl in let c = first.count q in record {
+  other_borne q at ne = let b = o.borne q at in let none = bit_elsewhere p q ne in let c = first.count q in record {
     open_once = λ not_closed. let once = b.open_once not_closed in omega arith;
     no_twice = let most = b.no_twice in omega arith;
     closed = λ closed. record {

@@ -1,5 +1,6 @@
 -- Functions changed at one number, and sums over them.
-use Rattle.std.proofs.Common.{◌≡◌, ◌≢◌, inl, inr, ℕ, zero, suc, ◌+◌, ◌<◌, ◌≤◌, Bool, true, false, ◌&&◌, refl, arith, ap, sym}
+use Rattle.std.proofs.Common.{◌≡◌, ◌≢◌, inl, inr, ℕ, zero, suc, ◌+◌, ◌<◌, ◌≤◌, ◌==◌, Bool, true, false, ◌&&◌, refl, arith, ap, sym}
+use Rattle.std.specs.Prelude.{IsTrue}
 use Rattle.std.proofs.lemmas.Bool.{cases_eq, ne_eqb, eq-eqb}
 use Rattle.proxy_model.specs.Maps.{upd, bit, sum_below, count_below}
 
@@ -76,3 +77,14 @@ bit_le false = omega arith
 pub bit_and_false : (b : Bool) → bit (b && false) ≡ 0
 bit_and_false true = refl
 bit_and_false false = refl
+
+pub bit_here : (p : ℕ) → bit (p == p) ≡ 1
+bit_here p = rw (eq-eqb p p refl) refl
+
+pub bit_elsewhere : (p q : ℕ) → q ≢ p → bit (p == q) ≡ 0
+bit_elsewhere p q ne = rw (ne_eqb p q (λ same. ne (sym same))) refl
+
+-- a test that adds something passes
+pub passes : (b : Bool) → 0 < bit b → IsTrue b
+passes true some = refl
+passes false some = absurd (omega arith)

@@ -17,7 +17,7 @@ use Rattle.proxy_model.specs.Phases.{is_idle, names, has_turn_at, owes_note_at, 
 use Rattle.proxy_model.specs.Sound.{Sound, IsAnnounced, IsBorne, IsServed, IsQuiet}
 use Rattle.proxy_model.specs.Worlds.{WorldState}
 use Rattle.proxy_model.proofs.Living.{saw_looks, looked_unused, named_lives}
-use Rattle.proxy_model.proofs.Maps.{upd_case, bit_le}
+use Rattle.proxy_model.proofs.Maps.{bit_elsewhere, upd_case, bit_le}
 use Rattle.proxy_model.proofs.Moved.{count_moved, refs_moved, engaged_moved, announced_moved, borne_moved, mail_moved, held_moved, few_moved}
 use Rattle.proxy_model.proofs.Ranges.{times-push}
 use Rattle.proxy_model.proofs.References.{has_reference}
@@ -39,7 +39,7 @@ becomes_messenger p n is = record {
   there = λ q. omega arith;
   owes = λ q. refl;
   brings = rw (eq-eqb p p refl, is) refl;
-  brings_no_other = λ q ne. rw (ne_eqb p q (λ same. ne (sym same))) refl;
+  brings_no_other = λ q ne. bit_elsewhere p q ne;
   delivers = refl;
   notifies = omega arith;
   turn = λ q has. cc;
@@ -65,7 +65,7 @@ swap_note_keeps s p w o e = record {
   engaged = engaged_moved w.senders w.phase s (phase.Owing p) (note_swapped p (w.note p)) near is w.places w.uses (λ q at. let a : bit (p == q) ≤ w.uses s q = subst (λ ph. bit (names q ph) ≤ w.uses s q) is (o.engaged s q near at) in let b = to.there q in omega arith) o.engaged;
   announced = λ q at. upd_case w.note p note.Pending (λ k n. IsAnnounced w.senders (upd w.phase s (note_swapped p (w.note p))) (w.sent k) (w.jobs k) n (w.serving k) k) q
       (λ same waits. omega arith)
-      (λ ne. announced_moved w.senders w.phase s (phase.Owing p) (note_swapped p (w.note p)) near is (w.sent q) (w.jobs q) (w.note q) (w.serving q) q (let zero_old : bit (p == q) ≡ 0 = rw (ne_eqb p q (λ same. ne (sym same))) refl in omega arith) (o.announced q at));
+      (λ ne. announced_moved w.senders w.phase s (phase.Owing p) (note_swapped p (w.note p)) near is (w.sent q) (w.jobs q) (w.note q) (w.serving q) q (let zero_old = bit_elsewhere p q ne in omega arith) (o.announced q at));
   borne = λ q at. upd_case w.note p note.Pending (λ k n. IsBorne w.senders w.owner (upd w.phase s (note_swapped p (w.note p))) (w.sent k) (w.jobs k) w.mail n (w.serving k) k) q
       (λ same. rw same (here_borne (o.borne p place)))
       (λ ne. borne_moved w.senders w.phase s (phase.Owing p) (note_swapped p (w.note p)) near is w.owner (w.sent q) (w.jobs q) w.mail (w.note q) (w.serving q) q (sym (to.brings_no_other q ne)) (o.borne q at));

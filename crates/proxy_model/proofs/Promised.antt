@@ -1,9 +1,9 @@
 -- What the invariant promises, from its parts.
-use Rattle.std.proofs.Common.{◌≡◌, ◌≢◌, ◌⊎◌, inl, inr, ℕ, zero, suc, ◌+◌, ◌<◌, ◌≤◌, ◌==◌, Bool, true, false, cond, ◌&&◌, [], ◌∷◌, length, refl, arith, ap, sym, subst, ◌∙◌}
+use Rattle.std.proofs.Common.{◌≡◌, ◌≢◌, ◌⊎◌, inl, inr, ℕ, zero, suc, ◌+◌, ◌<◌, ◌≤◌, ◌==◌, Bool, true, false, ◌&&◌, [], ◌∷◌, length, refl, arith, ap, sym, subst, ◌∙◌}
 use Rattle.std.specs.Prelude.{not, IsTrue}
 use Rattle.std.proofs.lemmas.Bool.{eq-eqb, ne_eqb}
 use Rattle.std.proofs.lemmas.List.Elements.{All-cons}
-use Rattle.std.proofs.lemmas.List.Sums.{count_by-le-length, sum_by-append}
+use Rattle.std.proofs.lemmas.List.Sums.{count_by-le-length}
 use Rattle.proxy_model.specs.declared.actors.Actor.TheVariants as actor
 use Rattle.proxy_model.specs.declared.actors.Note.{Note}
 use Rattle.proxy_model.specs.declared.actors.Note.TheVariants as note
@@ -22,8 +22,9 @@ use Rattle.proxy_model.specs.Promises.{NoSenderAfterClose, NoticesFindRoom, Noth
 use Rattle.proxy_model.specs.Sound.{Sound, bearers}
 use Rattle.proxy_model.specs.Worlds.{WorldState, put, taken}
 use Rattle.proxy_model.proofs.Inductive.{event_keeps}
-use Rattle.proxy_model.proofs.Maps.{upd_case, sum_upd, sum_le, sum_same, sum_add, sum_zero, sum_ones, term_le, count_some, bit_le}
+use Rattle.proxy_model.proofs.Maps.{passes, bit_here, upd_case, sum_upd, sum_le, sum_same, sum_add, sum_zero, sum_ones, term_le, count_some, bit_le}
 use Rattle.proxy_model.proofs.Notifying.{messenger_of}
+use Rattle.proxy_model.proofs.Ranges.{times-cons}
 
 idle_of : (ph : Phase) → bit (not (is_idle ph)) ≡ 0 → ph ≡ phase.Idle
 idle_of phase.Idle none = refl
@@ -91,10 +92,6 @@ pending_of note.None some = absurd (omega arith)
 pending_of note.Pending some = refl
 pending_of note.Received some = absurd (omega arith)
 
-passes : (b : Bool) → 0 < bit b → IsTrue b
-passes true some = refl
-passes false some = absurd (omega arith)
-
 checked_of : (a b : Bool) → 0 < bit (a && not b) → (a ≡ true) × (b ≡ false)
 checked_of true false some = (refl, refl)
 checked_of true true some = absurd (omega arith)
@@ -161,8 +158,8 @@ sum_point n x near = let one = sum_upd (λ q. 0) x 1 (λ v. v) n near in let non
 mail_sum : (places : ℕ) (mail : Mailbox) → ((q : ℕ) → 0 < times q mail → q < places) → length mail ≡ sum_below places (λ q. times q mail)
 mail_sum places [] there = sym (sum_zero places (λ q. 0) (λ q at. refl))
 mail_sum places (x ∷ rest) there =
-    let more : (q : ℕ) → times q (x ∷ rest) ≡ times q rest + bit (x == q) = (λ q. omega (arith, sum_by-append (λ k. cond (k == q) 1 0) (x ∷ []) rest)) in
-    let own : bit (x == x) ≡ 1 = rw (eq-eqb x x refl) refl in
+    let more = λ (q : ℕ). times-cons q x rest in
+    let own = bit_here x in
     let near = there x (let m = more x in omega arith) in
     let before = mail_sum places rest (λ q some. there q (let m = more q in omega arith)) in
     let one = sum_point places x near in

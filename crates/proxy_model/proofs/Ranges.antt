@@ -15,6 +15,10 @@ use Rattle.proxy_model.specs.Shapes.{MarksInRange, MailInRange}
 pub times-push : (p q : ℕ) (mail : Mailbox) → times p (mail ++ q ∷ []) ≡ times p mail + (if q == p then 1 else 0)
 times-push p q mail = sum_by_push (λ k. cond (k == p) 1 0) mail q
 
+-- and at the front
+pub times-cons : (p q : ℕ) (mail : Mailbox) → times p (q ∷ mail) ≡ times p mail + (if q == p then 1 else 0)
+times-cons p q mail = omega (arith, sum_by-append (λ k. cond (k == p) 1 0) (q ∷ []) mail)
+
 pub times-drop : (p : ℕ) (mail : Mailbox) → times p (drop 1 mail) ≤ times p mail
 times-drop p [] = omega arith
 times-drop p (q ∷ mail) = omega (arith, sum_by-append (λ k. cond (k == p) 1 0) (q ∷ []) mail)

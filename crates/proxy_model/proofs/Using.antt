@@ -1,7 +1,7 @@
 -- The events on the lives of places keep a world sound.
 use Rattle.std.proofs.Common.{◌≡◌, ◌≢◌, ◌⊎◌, inl, inr, ℕ, ◌+◌, ◌-◌, ◌<◌, ◌≤◌, ◌==◌, Bool, true, false, cond, ◌&&◌, length, refl, arith, ap, sym, ◌∙◌}
 use Rattle.std.specs.Prelude.{IsTrue}
-use Rattle.std.proofs.lemmas.Bool.{cases_lt, eqb-true, eq-eqb, ne_eqb}
+use Rattle.std.proofs.lemmas.Bool.{cases_lt, eqb-true, ne_eqb}
 use Rattle.proxy_model.specs.declared.actors.Look.{Look}
 use Rattle.proxy_model.specs.declared.actors.Look.TheVariants as look
 use Rattle.proxy_model.specs.declared.actors.Note.{Note}
@@ -15,7 +15,7 @@ use Rattle.proxy_model.specs.Phases.{names, owes_note_at, is_pending, is_receive
 use Rattle.proxy_model.specs.Sound.{Sound, UsesAreEngaged, LivesAreLawful, IsQuiet}
 use Rattle.proxy_model.specs.Worlds.{WorldState}
 use Rattle.proxy_model.proofs.Living.{used_lives, looked_unused}
-use Rattle.proxy_model.proofs.Maps.{upd_case, upd_here, upd_else, sum_upd, sum_le, term_le}
+use Rattle.proxy_model.proofs.Maps.{bit_here, bit_elsewhere, upd_case, upd_here, upd_else, sum_upd, sum_le, term_le}
 
 -- only lives, uses and looks change
 lived : (w : WorldState) (life : ℕ → ℕ) (uses : ℕ → ℕ → ℕ) (look : ℕ → Look) → Sound w → UsesAreEngaged w.senders w.places w.phase uses → LivesAreLawful w.senders w.places w.owner w.sent w.jobs w.note life uses look → Sound (record w { life = life; uses = uses; look = look })
@@ -184,8 +184,8 @@ release_use_keeps s p w o e = by_life (w.life p - 1 == 2) refl where
   by_life : (b : Bool) → (w.life p - 1 == 2) ≡ b → Sound (record w { life = upd w.life p (w.life p - 1); uses = upd w.uses s (upd (w.uses s) p (w.uses s p - 1)); look = upd w.look s (cond b (look.At p) (w.look s)) })
   by_life true is = with_look (look.At p)
       (looked_changed w s (look.At p) o near p (w.life p - 1) place
-      (let three : bit (w.life p == 2) ≡ 0 = (let last = eqb-true (w.life p - 1) 2 is in rw (ne_eqb (w.life p) 2 (omega arith)) refl) in let one : bit (w.life p - 1 == 2) ≡ 1 = rw is refl in let here : bit (p == p) ≡ 1 = rw (eq-eqb p p refl) refl in let none = unlooked p in omega arith)
-      (λ q ne. let elsewhere : bit (p == q) ≡ 0 = rw (ne_eqb p q (λ same. ne (sym same))) refl in let none = unlooked q in omega arith))
+      (let three : bit (w.life p == 2) ≡ 0 = (let last = eqb-true (w.life p - 1) 2 is in rw (ne_eqb (w.life p) 2 (omega arith)) refl) in let one : bit (w.life p - 1 == 2) ≡ 1 = rw is refl in let here = bit_here p in let none = unlooked p in omega arith)
+      (λ q ne. let elsewhere = bit_elsewhere p q ne in let none = unlooked q in omega arith))
       (λ q saw. cc)
   by_life false is = with_look (w.look s)
       (looked_changed w s (w.look s) o near p (w.life p - 1) place
@@ -197,8 +197,8 @@ claim_keeps : (s p : ℕ) → Keeps (event.Claim s p)
 claim_keeps s p w o e = lived w (upd w.life p 2) w.uses (upd w.look s (look.At p)) o o.engaged (record {
   used = λ q at. upd_case w.life p 2 (λ r v. sum_below w.senders (λ t. w.uses t r) ≡ v - 2) q (λ same. rw same (let was = o.lives.used p place in let z = zombie in omega arith)) (λ ne. o.lives.used q at);
   looked = looked_changed w s (look.At p) o near p 2 place
-      (let none : bit (w.life p == 2) ≡ 0 = rw zombie refl in let here : bit (p == p) ≡ 1 = rw (eq-eqb p p refl) refl in let nowhere = unlooked p in omega arith)
-      (λ q ne. let elsewhere : bit (p == q) ≡ 0 = rw (ne_eqb p q (λ same. ne (sym same))) refl in let nowhere = unlooked q in omega arith);
+      (let none : bit (w.life p == 2) ≡ 0 = rw zombie refl in let here = bit_here p in let nowhere = unlooked p in omega arith)
+      (λ q ne. let elsewhere = bit_elsewhere p q ne in let nowhere = unlooked q in omega arith);
   free = λ q at. upd_case w.life p 2 (λ r v. v ≡ 0 → IsQuiet w.owner (w.sent r) (w.jobs r) (w.note r)) q (λ same dead. absurd (omega arith)) (λ ne dead. o.lives.free q at dead);
   saw_none = saw_kept w s (look.At p) o near (λ q at saw. absurd (cc));
   one_user = o.lives.one_user;
@@ -279,7 +279,7 @@ mark_life_keeps s p w o e = lived w (upd w.life p (life_marked (w.look s))) w.us
   used = λ q at. upd_case w.life p (life_marked (w.look s)) (λ r v. sum_below w.senders (λ t. w.uses t r) ≡ v - 2) q (λ same. rw same (let was = o.lives.used p place in let u = unused in let most = marked_le (w.look s) in omega arith)) (λ ne. o.lives.used q at);
   looked = looked_changed w s look.Nowhere o near p (life_marked (w.look s)) place
       (let one : bit (w.life p == 2) ≡ 1 = rw unused refl in let here : bit (looks_at p (w.look s)) ≡ 1 = rw looks refl in let none : bit (life_marked (w.look s) == 2) ≡ 0 = rw (ne_eqb (life_marked (w.look s)) 2 (let most = marked_le (w.look s) in omega arith)) refl in omega arith)
-      (λ q ne. let same = ap bit (looks_once p q (w.look s) looks) in let elsewhere : bit (p == q) ≡ 0 = rw (ne_eqb p q (λ same. ne (sym same))) refl in omega arith);
+      (λ q ne. let same = ap bit (looks_once p q (w.look s) looks) in let elsewhere = bit_elsewhere p q ne in omega arith);
   free = λ q at. upd_case w.life p (life_marked (w.look s)) (λ r v. v ≡ 0 → IsQuiet w.owner (w.sent r) (w.jobs r) (w.note r)) q
       (λ same dead. rw same (o.lives.saw_none s p near place (marked_free p (w.look s) looks dead)))
       (λ ne dead. o.lives.free q at dead);

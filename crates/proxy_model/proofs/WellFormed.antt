@@ -1,5 +1,5 @@
 -- A target's world names only its own senders and places, whatever comes.
-use Rattle.std.proofs.Common.{◌≡◌, ℕ, ◌-◌, ◌<◌, ◌≤◌, ◌==◌, Bool, true, false, cond, Option, Some, None, List, [], ◌∷◌, ◌++◌, count_by, refl, arith, ap, sym, subst, ◌∙◌}
+use Rattle.std.proofs.Common.{◌≡◌, ℕ, ◌-◌, ◌<◌, ◌==◌, Bool, true, false, cond, Option, Some, None, List, [], ◌∷◌, ◌++◌, count_by, refl, arith, ap, sym, subst, ◌∙◌}
 use Rattle.std.specs.Prelude.{IsTrue}
 use Rattle.std.proofs.lemmas.Bool.{eqb-true, eq-eqb}
 use Rattle.std.proofs.lemmas.List.Sums.{sum_by_push}
@@ -19,7 +19,7 @@ use Rattle.proxy_model.specs.Mailbox.{Mailbox, times, with_notice, notice_brough
 use Rattle.proxy_model.specs.Maps.{bit, upd}
 use Rattle.proxy_model.specs.Phases.{names, looks_at, note_swapped, turn_given_back, look_after_release}
 use Rattle.proxy_model.specs.Worlds.{WorldState, IsWellFormed}
-use Rattle.proxy_model.proofs.Maps.{upd_case}
+use Rattle.proxy_model.proofs.Maps.{upd_case, passes}
 use Rattle.proxy_model.proofs.Notifying.{messenger_of, swaps}
 use Rattle.proxy_model.proofs.Ranges.{times-push, times-drop, near_pushed, near_added}
 use Rattle.proxy_model.proofs.References.{gives_back}
@@ -74,10 +74,6 @@ marks_set w p new o there = record {
 -- a phase or a look at p is at no other place
 here : (places p : ℕ) → p < places → (q : ℕ) → IsTrue (p == q) → q < places
 here places p near q is = subst (λ (x : ℕ). x < places) (eqb-true p q is) near
-
-passes : (b : Bool) → 1 ≤ bit b → IsTrue b
-passes true some = refl
-passes false some = absurd (omega arith)
 
 one_sender : (senders s : ℕ) → s < senders → (t : ℕ) → Some (actor.Sender s) ≡ Some (actor.Sender t) → t < senders
 one_sender senders s near t same = let e : s ≡ t = cc in subst (λ (x : ℕ). x < senders) e near
