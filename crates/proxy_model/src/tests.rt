@@ -128,6 +128,7 @@ fn closes_with_a_job_waiting(rt: HostRuntime) -> Result<(), Fail> {
             fate: Some(FateMark::Cancelled),
         },
     ];
+    assert_eq!(rt; world.places, 1);
     assert_eq!(rt; world.jobs_at(0).as_slice(), jobs.as_slice());
     let why = Why { part: 2, value: 0 };
     assert_eq!(rt;
