@@ -1,2 +1,3 @@
 pub mod NameTrees
+pub mod Forms
 pub mod TreeLines

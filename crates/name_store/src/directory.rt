@@ -1,11 +1,15 @@
-ghost use Rattle.std.specs.Prelude.{◌≡◌, ℕ, None, OnOk, OnErr};
-ghost use Rattle.name_store.specs.NameTrees.{Listing, entry_at, empty_in, with_entry};
+ghost use Rattle.std.specs.Prelude.{◌≡◌, ◌==◌, ℕ, length, IfOk, OnOk, OnErr, option_copied};
+ghost use Rattle.name_store.specs.NameTrees.{Listing, empty_in, entry_at, names_from, with_entry, with_parent, without_entry};
 
+use crate::name_list::NameList;
 use crate::operation::Node;
 use std::alloc::{AllocError, Global};
 use std::collections::{BTreeMap, btree_map};
 use std::marker::Model;
 use wf_core::Name;
+
+/// The most names of one list.
+const NAMES_MAX: usize = 32;
 
 /// A directory, seen as its parent's id and its entries in byte order.
 #[derive(Drop)]
@@ -36,10 +40,10 @@ impl Directory {
         self.parent
     }
 
-    pub(crate) fn entry(&self, name: &Name) -> Option<Node>
-        ensures { result ≡ entry_at self.now name.now }
+    pub(crate) fn entry(&self, name: &Name) -> Option<&Node>
+        ensures { option_copied result ≡ entry_at self.now name.now }
     {
-        self.entries.get(name).copied()
+        self.entries.get(name)
     }
 
     pub(crate) fn entries(&self) -> btree_map::Iter<'_, Name, Node>
@@ -48,12 +52,41 @@ impl Directory {
         self.entries.iter()
     }
 
-    /// Adds an entry under a name that has none.
+    pub(crate) fn is_empty(&self) -> bool
+        ensures { result ≡ (length self.now.entries == 0) }
+    {
+        self.entries.is_empty()
+    }
+
+    /// At most 32 names from a position on, in byte order.
+    pub(crate) fn names(&self, alloc: Global, start: u32) -> Result<NameList, AllocError>
+        ensures { IfOk result (λ names. names ≡ names_from self.now start) }
+    {
+        let mut names = NameList::new(alloc);
+        for name in self.entries.keys().skip(start as usize).take(NAMES_MAX) {
+            names.push(name.clone()?)?;
+        }
+        Ok(names)
+    }
+
+    /// Enters a node under that name, in the place of what is there.
     pub(crate) fn enter(&mut self, name: Name, node: Node) -> Result<(), AllocError>
         ensures ok { OnOk result (self.new ≡ with_entry self.old name node) }
         ensures err { OnErr result (self.new ≡ self.old) }
     {
         self.entries.insert(name, node)?;
         Ok(())
+    }
+
+    pub(crate) fn unlink(&mut self, name: &Name)
+        ensures { self.new ≡ without_entry self.old name.now }
+    {
+        let _ = self.entries.remove(name);
+    }
+
+    pub(crate) fn settle(&mut self, parent: u64)
+        ensures { self.new ≡ with_parent self.old parent }
+    {
+        self.parent = parent;
     }
 }

@@ -1,11 +1,17 @@
 //! The names of one backend of the file system: its directories and their entries.
 #![tactic(auto)]
 
+pub use name_list::NameList;
 pub use name_tree::NameTree;
 pub use operation::{NameAnswer, NameOp, Node};
 pub use tree_line::TreeLine;
 
+mod directories;
 mod directory;
+mod making;
+mod moving;
+mod name_list;
 mod name_tree;
 mod operation;
+mod removing;
 mod tree_line;

@@ -1,35 +1,37 @@
-ghost use Rattle.std.specs.Prelude.{◌≡◌, ℕ, ◌+◌, ◌^◌, ◌<◌, ◌++◌, [], length, Some, IfOk, IfSome, OnOk, OnErr, option_copied, slice_set, vec_len};
-ghost use Rattle.name_store.specs.NameTrees.{Tree, dir_at, looked_up, parent_in, with_entry, opening, nstep, made_in, grown, IsForm};
-ghost use Rattle.name_store.specs.TreeLines.{tree_lines, lines_below};
+ghost use Rattle.std.specs.Prelude.{◌≡◌, ℕ, ◌+◌, ◌^◌, ◌<◌, ◌++◌, IfOk, OnOk, OnErr};
+ghost use Rattle.name_store.specs.NameTrees.{Tree, dir_at, listed, looked_up, nstep, opening, parent_in};
+ghost use Rattle.name_store.specs.Forms.{IsForm};
+ghost use Rattle.name_store.specs.TreeLines.{lines_below, tree_lines};
 
-use crate::directory::Directory;
+use crate::directories::Directories;
 use crate::operation::{NameAnswer, NameOp, Node};
-use crate::tree_line::TreeLine;
+use crate::tree_line::{TreeLine, line_of};
 use std::alloc::{AllocError, Global};
 use std::marker::Model;
-use wf_core::{Errno, Name, Text};
+use wf_core::{Name, Text};
 
 /// The names of one backend, seen as a tree.
 #[derive(Drop)]
 pub struct NameTree {
-    directories: Vec<Directory>,
+    alloc: Global,
+    directories: Directories,
 }
 
 impl Model for NameTree {
     ghost Value = { Tree };
 
-    ghost view = { λ t. t.directories.items };
+    ghost view = { λ t. t.directories };
 }
 
 impl NameTree {
-    /// The empty tree. No backend is mounted in it yet, so `mounts` is empty.
+    /// The tree before the first operation: the root alone, in which each backend is mounted under its name.
     pub fn new(alloc: Global, mounts: Vec<(Name, u32)>) -> Result<NameTree, AllocError>
-        requires { mounts.items ≡ [] }
-        ensures { IfOk result (λ tree. tree ≡ opening) }
+        ensures { IfOk result (λ tree. tree ≡ opening mounts.items) }
     {
-        let mut directories = Vec::new(alloc);
-        directories.push(Directory::new(alloc, 0))?;
-        Ok(NameTree { directories })
+        Ok(NameTree {
+            alloc,
+            directories: Directories::new(alloc, mounts)?,
+        })
     }
 
     /// Takes one step, which is the definition's. Want of memory changes nothing.
@@ -39,72 +41,55 @@ impl NameTree {
         ensures err { OnErr result (self.new ≡ self.old) }
     {
         match op {
-            NameOp::Look(id, name) => Ok(self.look(*id, name)),
+            NameOp::Look(id, name) => self.look(*id, name),
             NameOp::Parent(id) => Ok(self.parent(*id)),
-            NameOp::Makedir(id, name) => self.makedir(*id, name),
+            NameOp::Makedir(id, name) => self.directories.makedir(*id, name),
+            NameOp::Addlink(id, name, text) => self.directories.addlink(*id, name, text),
+            NameOp::Addfile(id, name, file) => self.directories.addfile(*id, name, *file),
+            NameOp::Remfile(id, name, slash) => Ok(self.directories.remfile(*id, name, *slash)),
+            NameOp::Remdir(id, name) => Ok(self.directories.remdir(*id, name)),
+            NameOp::Move(from, name, to, other, slash) => {
+                self.directories.move_entry(*from, name, *to, other, *slash)
+            }
+            NameOp::List(id, start) => self.list(*id, *start),
         }
     }
 
-    fn directory(&self, id: u64) -> Option<&Directory>
-        ensures { option_copied result ≡ dir_at self.now id }
+    fn look(&self, id: u64, name: &Name) -> Result<NameAnswer, AllocError>
+        ensures { IfOk result (λ answer. answer ≡ looked_up (dir_at self.now id) name.now) }
     {
-        self.directories.get(id as usize)
-    }
-
-    fn look(&self, id: u64, name: &Name) -> NameAnswer
-        ensures { result ≡ looked_up (dir_at self.now id) name.now }
-    {
-        let Some(directory) = self.directory(id) else {
-            return NameAnswer::Gone;
+        let Some(directory) = self.directories.get(id) else {
+            return Ok(NameAnswer::Gone);
         };
         match directory.entry(name) {
-            Some(node) => NameAnswer::Found(node),
-            None => NameAnswer::Absent,
+            Some(node) => Ok(NameAnswer::Found(node.clone()?)),
+            None => Ok(NameAnswer::Absent),
         }
     }
 
     fn parent(&self, id: u64) -> NameAnswer
         ensures { result ≡ parent_in (dir_at self.now id) }
     {
-        match self.directory(id) {
+        match self.directories.get(id) {
             Some(directory) => NameAnswer::Found(Node::Dir(directory.parent())),
             None => NameAnswer::Gone,
         }
     }
 
-    fn makedir(&mut self, id: u64, name: &Name) -> Result<NameAnswer, AllocError>
-        ensures ok { IfOk result (λ answer. made_in self.old id name.now (dir_at self.old id) ≡ record { tree = self.new; answer = answer }) }
-        ensures err { OnErr result (self.new ≡ self.old) }
+    fn list(&self, id: u64, start: u32) -> Result<NameAnswer, AllocError>
+        ensures { IfOk result (λ answer. answer ≡ listed (dir_at self.now id) start) }
     {
-        let Some(directory) = self.directory(id) else {
-            return Ok(NameAnswer::Gone);
-        };
-        if directory.entry(name).is_some() {
-            return Ok(NameAnswer::Fault(Errno::Eexist));
+        match self.directories.get(id) {
+            Some(directory) => Ok(NameAnswer::Names(directory.names(self.alloc, start)?)),
+            None => Ok(NameAnswer::Gone),
         }
-        self.add(id, name.clone()?)
     }
 
-    fn add(&mut self, id: u64, name: Name) -> Result<NameAnswer, AllocError>
-        requires { id < length self.old }
-        ensures made { IfOk result (λ answer. answer ≡ NameAnswer.Made (length self.old)) }
-        ensures ok { OnOk result (IfSome (dir_at self.old id) (λ directory. self.new ≡ grown self.old id directory name)) }
-        ensures err { OnErr result (self.new ≡ self.old) }
-    {
-        let made = self.directories.len() as u64;
-        self.directories.reserve(1)?;
-        let directory = &mut self.directories[id as usize];
-        directory.enter(name, Node::Dir(made))?;
-        let alloc = *self.directories.allocator();
-        self.directories.push_reserved(Directory::new(alloc, id));
-        Ok(NameAnswer::Made(made))
-    }
-
-    /// The lines of the tree. A tree of 2^32 directories or more has none: it is want of memory.
+    /// The lines of the tree. A tree of 2^32 ids or more has none: it is want of memory.
     pub fn lines(&self, alloc: Global) -> Result<Vec<TreeLine>, AllocError>
         ensures { IfOk result (λ lines. lines.items ≡ tree_lines self.now) }
     {
-        let Ok(levels) = u32::try_from(self.directories.len()) else {
+        let Ok(levels) = u32::try_from(self.directories.next_id()) else {
             return Err(AllocError);
         };
         let mut lines = Vec::new(alloc);
@@ -127,13 +112,14 @@ impl NameTree {
         if levels == 0 {
             return Ok(());
         }
-        let Some(directory) = self.directory(id) else {
+        let Some(directory) = self.directories.get(id) else {
             return Ok(());
         };
         for (name, node) in directory.entries() {
-            let Node::Dir(child) = node;
-            lines.push(TreeLine::Dir(depth + 1, Text::read(alloc, name.as_bytes())?))?;
-            self.add_lines(alloc, levels - 1, depth + 1, *child, lines)?;
+            lines.push(line_of(alloc, depth + 1, name, node)?)?;
+            if let Node::Dir(child) = node {
+                self.add_lines(alloc, levels - 1, depth + 1, *child, lines)?;
+            }
         }
         Ok(())
     }

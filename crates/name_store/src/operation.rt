@@ -1,10 +1,18 @@
-use wf_core::{Errno, Name};
+use crate::name_list::NameList;
+use wf_core::{Errno, Name, PathText};
 
-/// What an entry of a directory is. Ids are numbers of the tree that the entry stands in.
-#[derive(Clone, Copy, Debug, PartialEq, Eq)]
+/// What an entry of a directory is. Ids of directories and links are numbers of the tree that the entry
+/// stands in, ids of files are numbers of the file store.
+#[derive(Clone, Debug, PartialEq, Eq, Drop)]
 pub enum Node {
     /// The directory with that id.
     Dir(u64),
+    /// The link with that id, and the path that it leads to.
+    Link(u64, PathText),
+    /// The file with that id.
+    File(u64),
+    /// The root of the backend with that number.
+    Mount(u32),
 }
 
 /// An operation on the names of one backend. A directory is named by its id; the root is 0.
@@ -16,18 +24,43 @@ pub enum NameOp {
     Parent(u64),
     /// Makes an empty directory under that name in that directory.
     Makedir(u64, Name),
+    /// Makes a link to that path under that name in that directory.
+    Addlink(u64, Name, PathText),
+    /// Enters the file with the last id under that name in that directory.
+    Addfile(u64, Name, u64),
+    /// Removes a file or a link. The flag says that a slash follows the name, which a directory's alone may have.
+    Remfile(u64, Name, bool),
+    /// Removes an empty directory.
+    Remdir(u64, Name),
+    /// Moves the first name's entry to the second directory and name, in the place of what it replaces. The
+    /// flag says that a slash follows either name.
+    Move(u64, Name, u64, Name, bool),
+    /// At most 32 names of that directory, from that position on, in the order of their bytes.
+    List(u64, u32),
 }
 
 /// What an operation answers.
-#[derive(Clone, Copy, Debug, PartialEq, Eq)]
+#[derive(Debug, PartialEq, Eq, Drop)]
 pub enum NameAnswer {
-    /// The directory that the operation names is not there.
+    /// A directory that the operation names is not there.
     Gone,
     /// The directory has no such name.
     Absent,
     Found(Node),
-    /// The new directory's id.
+    /// The new directory's or link's id.
     Made(u64),
-    /// `EEXIST` where a name is there that is to be made.
+    /// The name is there already, so no file was entered.
+    Taken(Node),
+    Done,
+    /// The file with that id was removed from the directory.
+    RemovedFile(u64),
+    RemovedLink,
+    /// Both names are one entry, which stays.
+    Same,
+    /// The entry was moved, and the file with that id replaced.
+    Over(u64),
+    Moved,
+    Names(NameList),
+    /// The error that refuses the operation.
     Fault(Errno),
 }

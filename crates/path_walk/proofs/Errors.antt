@@ -17,13 +17,13 @@ use Rattle.path_walk.specs.Posix.{Outcome, made_in, made_under, made_at, making,
 abbrev Spares : Store → Outcome → Type 0
 Spares store outcome = (error : Errno) → outcome.reply ≡ Fault error → outcome.store ≡ store
 
-in_spares : (store : Store) (here : ℕ) (name : List ℕ) (directory : Listing) (node : Option Node) → Spares store (made_in store here name directory node)
-in_spares store here name directory (Some node) = λ error h. refl
-in_spares store here name directory None = λ error h. cc
+in_spares : (store : Store) (here : ℕ) (name : List ℕ) (node : Option Node) → Spares store (made_in store here name node)
+in_spares store here name (Some node) = λ error h. refl
+in_spares store here name None = λ error h. cc
 
 under_spares : (store : Store) (here : ℕ) (name : List ℕ) (directory : Option Listing) → Spares store (made_under store here name directory)
 under_spares store here name None = λ error h. refl
-under_spares store here name (Some directory) = in_spares store here name directory (entry_at directory name)
+under_spares store here name (Some directory) = in_spares store here name (entry_at directory name)
 
 at_spares : (store : Store) (last : Option Part) (names here : ℕ) → Spares store (made_at store last names here)
 at_spares store None names here = λ error h. refl

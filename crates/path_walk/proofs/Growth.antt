@@ -10,7 +10,7 @@ use Rattle.std.proofs.lemmas.Cmp.{tied_itself}
 use Rattle.std.proofs.lemmas.Map.Lookups.{exact_bytes}
 use Rattle.name_store.specs.declared.operation.Node.{Node}
 use Rattle.name_store.specs.declared.operation.Node.TheVariants.{Dir}
-use Rattle.name_store.specs.NameTrees.{Tree, Listing, byte_order, dir_at, entry_at, empty_in, with_entry, grown}
+use Rattle.name_store.specs.NameTrees.{Tree, Listing, byte_order, in_slot, dir_at, entry_at, empty_in, with_entry, put_at, grown}
 
 abbrev Entries : Type 0
 Entries = List (List ℕ × Node)
@@ -95,20 +95,37 @@ set_found (x ∷ xs) ys (suc i) new old h = set_found xs ys i new old h
 abbrev pub Extends : Tree → Tree → Type 0
 Extends earlier later = (id : ℕ) (old : Listing) → dir_at earlier id ≡ Some old → (new : Listing) × (dir_at later id ≡ Some new) × Keeps old new
 
--- a tree in which a directory was made under a name that had none extends the tree before
-pub grown_extends : (tree : Tree) (id : ℕ) (directory : Listing) (name : List ℕ) → dir_at tree id ≡ Some directory → entry_at directory name ≡ None → Extends tree (grown tree id directory name)
-grown_extends tree id directory name is_there none other old h =
-    after_set (Keeps old) tree (empty_in id ∷ []) id other (with_entry directory name (Dir (length tree))) old h kept (keeps_itself old)
-  where
-    kept : other ≡ id → Keeps old (with_entry directory name (Dir (length tree)))
-    kept e =
-        let some_same : Some directory ≡ Some old = sym is_there ∙ sym (ap (dir_at tree) e) ∙ h in
-        let same : directory ≡ old = cc in
-        subst (λ (d : Listing). Keeps d (with_entry directory name (Dir (length tree)))) same (keeps_others directory name (Dir (length tree)) none)
+-- the slot of a directory that is there
+slot_of : (slot : Option (Option Listing)) (directory : Listing) → in_slot slot ≡ Some directory → slot ≡ Some (Some directory)
+slot_of None directory h = cc
+slot_of (Some slot) directory h = ap (λ (s : Option Listing). let o : Option (Option Listing) = Some s in o) h
 
--- and has the new entry where it was made
-pub grown_at : (tree : Tree) (id : ℕ) (directory : Listing) (name : List ℕ) → dir_at tree id ≡ Some directory → dir_at (grown tree id directory name) id ≡ Some (with_entry directory name (Dir (length tree)))
-grown_at tree id directory name is_there = set_found tree (empty_in id ∷ []) id (with_entry directory name (Dir (length tree))) directory is_there
+module _ (tree : Tree) (id : ℕ) (directory : Listing) (name : List ℕ) (is_there : dir_at tree id ≡ Some directory) where
+  abbrev new_entry : Listing
+  new_entry = with_entry directory name (Dir (length tree))
+
+  -- the slots of the tree in which the directory has a new one
+  slots_are : grown tree id name ≡ slice_set tree id (Some new_entry) ++ Some (empty_in id) ∷ []
+  slots_are =
+      ap (λ (d : Option Listing). put_at tree id (λ old. with_entry old name (Dir (length tree))) d ++ Some (empty_in id) ∷ []) is_there
+
+  kept : entry_at directory name ≡ None → (other : ℕ) (old : Listing) → dir_at tree other ≡ Some old → other ≡ id → Keeps old new_entry
+  kept none other old h e =
+      let some_same : Some directory ≡ Some old = sym is_there ∙ sym (ap (dir_at tree) e) ∙ h in
+      let same : directory ≡ old = cc in
+      subst (λ (d : Listing). Keeps d new_entry) same (keeps_others directory name (Dir (length tree)) none)
+
+  -- a tree in which a directory was made under a name that had none extends the tree before
+  pub grown_extends : entry_at directory name ≡ None → Extends tree (grown tree id name)
+  grown_extends none other old h =
+      let (slot, found, (new, is, keeps)) = after_set (λ (slot : Option Listing). (new : Listing) × (slot ≡ Some new) × Keeps old new) tree (Some (empty_in id) ∷ []) id other (Some new_entry) (Some old) (slot_of (slice_get tree other) old h) (λ e. (new_entry, refl, kept none other old h e)) (old, refl, keeps_itself old) in
+      (new, ap (λ (t : Tree). dir_at t other) slots_are ∙ ap in_slot found ∙ is, keeps)
+
+  -- and has the new entry where it was made
+  pub grown_at : dir_at (grown tree id name) id ≡ Some new_entry
+  grown_at =
+      ap (λ (t : Tree). dir_at t id) slots_are
+      ∙ ap in_slot (set_found tree (Some (empty_in id) ∷ []) id (Some new_entry) (Some directory) (slot_of (slice_get tree id) directory is_there))
 
 pub entry_is_there : (directory : Listing) (name : List ℕ) (node : Node) → entry_at (with_entry directory name node) name ≡ Some node
 entry_is_there directory name node = entered directory.entries name node

@@ -3,7 +3,7 @@ use Rattle.std.proofs.Common.{◌≡◌, ℕ, ◌==◌, ◌-◌, zero, suc, Bool
 use Rattle.std.proofs.lemmas.Option.{slice_get_within, get_or_from_slice_get}
 use Rattle.wf_core.specs.declared.errno.Errno.{Errno}
 use Rattle.name_store.specs.declared.operation.Node.{Node}
-use Rattle.name_store.specs.declared.operation.Node.TheVariants.{Dir}
+use Rattle.name_store.specs.declared.operation.Node.TheVariants.{Dir, Link, File, Mount}
 use Rattle.name_store.specs.NameTrees.{Tree, Listing, dir_at, entry_at}
 use Rattle.path_walk.specs.declared.part.Part.{Part}
 use Rattle.path_walk.specs.declared.part.Part.TheVariants.{Here, Up, Down, TooLong}
@@ -14,6 +14,9 @@ use Rattle.path_walk.proofs.Growth.{Keeps, Extends}
 into_still : (earlier later : Listing) (name : List ℕ) (there : ℕ) (node : Option Node) → Keeps earlier later → entry_at earlier name ≡ node → into node ≡ Ok there → into (entry_at later name) ≡ Ok there
 into_still earlier later name there None keeps is h = cc
 into_still earlier later name there (Some (Dir id)) keeps is h = ap into (keeps.entries name (Dir id) is) ∙ h
+into_still earlier later name there (Some (Link id text)) keeps is h = cc
+into_still earlier later name there (Some (File file)) keeps is h = cc
+into_still earlier later name there (Some (Mount backend)) keeps is h = cc
 
 below_still : (earlier later : Tree) (here : ℕ) (name : List ℕ) (there : ℕ) (directory : Option Listing) → Extends earlier later → dir_at earlier here ≡ directory → below directory name ≡ Ok there → below (dir_at later here) name ≡ Ok there
 below_still earlier later here name there None extends is h = cc

@@ -26,13 +26,13 @@ record Made (store : Store) (last : Option Part) (front : Result Place Errno) (l
   pub front_is : front ≡ Ok (record { names = suc names; directory = here })
   pub is_there : dir_at (names_at store 0) here ≡ Some directory
   pub is_new : entry_at directory name ≡ None
-  pub left_is : left ≡ with_names store 0 (grown (names_at store 0) here directory name)
+  pub left_is : left ≡ with_names store 0 (grown (names_at store 0) here name)
 
 -- an outcome that is `Done` is that of a directory made
 abbrev Makes : Store → Option Part → Result Place Errno → Outcome → Type 0
 Makes store last front outcome = outcome.reply ≡ Done → Made store last front outcome.store
 
-in_makes : (store : Store) (name : List ℕ) (names here : ℕ) (directory : Listing) (node : Option Node) → dir_at (names_at store 0) here ≡ Some directory → entry_at directory name ≡ node → Makes store (Some (Down name)) (Ok (record { names = suc names; directory = here })) (made_in store here name directory node)
+in_makes : (store : Store) (name : List ℕ) (names here : ℕ) (directory : Listing) (node : Option Node) → dir_at (names_at store 0) here ≡ Some directory → entry_at directory name ≡ node → Makes store (Some (Down name)) (Ok (record { names = suc names; directory = here })) (made_in store here name node)
 in_makes store name names here directory (Some node) is_there is = λ h. cc
 in_makes store name names here directory None is_there is = λ h. record {
   name = name;
@@ -78,7 +78,7 @@ put_names (old ∷ names) tree id directory h = refl
 
 module _ (store left : Store) (parts : List Part) (made : Made store (last_of parts) (leads store (front_of parts)) left) where
   abbrev later : Tree
-  later = grown (names_at store 0) made.here made.directory made.name
+  later = grown (names_at store 0) made.here made.name
 
   abbrev new_entry : Listing
   new_entry = with_entry made.directory made.name (DirNode (length (names_at store 0)))
@@ -107,7 +107,7 @@ module _ (store left : Store) (parts : List Part) (made : Made store (last_of pa
       ap (λ (r : Result Place Errno). (making left (last_of parts) r).reply) front_leads
       ∙ ap (λ (last : Option Part). (made_at left last (suc made.names) made.here).reply) made.last_is
       ∙ ap (λ (d : Option Listing). (made_under left made.here made.name d).reply) grows_at
-      ∙ ap (λ (node : Option Node). (made_in left made.here made.name new_entry node).reply) has_entry
+      ∙ ap (λ (node : Option Node). (made_in left made.here made.name node).reply) has_entry
 
 makes : (store : Store) (path : List ℕ) → (posix store (Mkdir path)).reply ≡ Done → path_fault path ≡ None → Made store (last_of (parts_of path)) (leads store (front_of (parts_of path))) (posix store (Mkdir path)).store
 makes store path done none =

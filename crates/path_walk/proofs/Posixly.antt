@@ -3,7 +3,7 @@ use Rattle.std.proofs.Common.{◌≡◌, ℕ, ◌==◌, zero, suc, Bool, true, f
 use Rattle.wf_core.specs.declared.errno.Errno.{Errno}
 use Rattle.wf_core.specs.declared.errno.Errno.TheVariants.{Enoent, Eexist}
 use Rattle.name_store.specs.declared.operation.Node.{Node}
-use Rattle.name_store.specs.declared.operation.Node.TheVariants.{Dir as DirNode}
+use Rattle.name_store.specs.declared.operation.Node.TheVariants.{Dir as DirNode, Link as LinkNode, File as FileNode, Mount as MountNode}
 use Rattle.name_store.specs.declared.operation.NameOp.{NameOp}
 use Rattle.name_store.specs.declared.operation.NameOp.TheVariants.{Look, Parent}
 use Rattle.name_store.specs.NameTrees.{Tree, Listing, dir_at, entry_at, nstep, parent_in, looked_up, found, made_beside, made_in as made_in_tree, Outcome as NameOutcome}
@@ -45,6 +45,9 @@ Leads store rest next = (names here : ℕ) → run (walk rest names here next) s
 entry_resolves : (store : Store) (rest : List Part) (names : ℕ) (next : ℕ → ℕ → Program) (node : Option Node) → Leads store rest next → run (led (way_of (Answered (NamesAnswer (found node)))) (λ there. walk rest names there next)) store ≡ ended store (along (into node) (λ there. resolve (names_at store 0) rest names there)) next
 entry_resolves store rest names next None on = refl
 entry_resolves store rest names next (Some (DirNode id)) on = on names id
+entry_resolves store rest names next (Some (LinkNode id text)) on = refl
+entry_resolves store rest names next (Some (FileNode file)) on = refl
+entry_resolves store rest names next (Some (MountNode backend)) on = refl
 
 below_resolves : (store : Store) (rest : List Part) (names : ℕ) (name : List ℕ) (next : ℕ → ℕ → Program) (directory : Option Listing) → Leads store rest next → run (led (way_of (Answered (NamesAnswer (looked_up directory name)))) (λ there. walk rest names there next)) store ≡ ended store (along (below directory name) (λ there. resolve (names_at store 0) rest names there)) next
 below_resolves store rest names name next None on = refl
@@ -75,13 +78,13 @@ resolves store (Down name ∷ rest) (suc names) here next =
 abbrev makes : NameOutcome → Store → Outcome
 makes made store = record { store = with_names store 0 made.tree; reply = made_reply (Answered (NamesAnswer made.answer)) }
 
-makes_in : (store : Store) (here : ℕ) (name : List ℕ) (directory : Listing) (node : Option Node) → makes (made_beside (names_at store 0) here name directory node) store ≡ made_in store here name directory node
-makes_in store here name directory (Some node) = ap (λ (s : Store). replied s (Fault Eexist)) (unchanged store)
-makes_in store here name directory None = refl
+makes_in : (store : Store) (here : ℕ) (name : List ℕ) (node : Option Node) → makes (made_beside (names_at store 0) here name node) store ≡ made_in store here name node
+makes_in store here name (Some node) = ap (λ (s : Store). replied s (Fault Eexist)) (unchanged store)
+makes_in store here name None = refl
 
 makes_under : (store : Store) (here : ℕ) (name : List ℕ) (directory : Option Listing) → makes (made_in_tree (names_at store 0) here name directory) store ≡ made_under store here name directory
 makes_under store here name None = ap (λ (s : Store). replied s (Fault Enoent)) (unchanged store)
-makes_under store here name (Some directory) = makes_in store here name directory (entry_at directory name)
+makes_under store here name (Some directory) = makes_in store here name (entry_at directory name)
 
 makes_at : (store : Store) (last : Option Part) (names here : ℕ) → run (making last names here) store ≡ made_at store last names here
 makes_at store None names here = refl

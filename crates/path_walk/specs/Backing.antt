@@ -1,7 +1,7 @@
 -- What the backends of a store owe to a call.
 use Rattle.std.specs.Prelude.{◌≡◌, ℕ, ◌<◌, Option, None, Some, Result, Ok, Err}
 use Rattle.std.specs.declared.alloc.AllocError.{AllocError}
-use Rattle.name_store.specs.NameTrees.{IsForm}
+use Rattle.name_store.specs.Forms.{IsForm}
 use Rattle.path_walk.specs.declared.step.CellId.{CellId}
 use Rattle.path_walk.specs.declared.step.CellId.TheVariants.{Names as NamesCell}
 use Rattle.path_walk.specs.declared.step.StoreOp.{StoreOp}

@@ -2,9 +2,9 @@
 -- recursion on the components. That only so many names may be taken is this project's own.
 use Rattle.std.specs.Prelude.{ℕ, ◌==◌, zero, suc, if◌then◌else◌, List, [], ◌∷◌, Option, None, Some, Result, Ok, Err}
 use Rattle.wf_core.specs.declared.errno.Errno.{Errno}
-use Rattle.wf_core.specs.declared.errno.Errno.TheVariants.{Enoent, Enametoolong}
+use Rattle.wf_core.specs.declared.errno.Errno.TheVariants.{Enoent, Enotdir, Eloop, Enametoolong, Exdev}
 use Rattle.name_store.specs.declared.operation.Node.{Node}
-use Rattle.name_store.specs.declared.operation.Node.TheVariants.{Dir}
+use Rattle.name_store.specs.declared.operation.Node.TheVariants.{Dir, Link, File, Mount}
 use Rattle.name_store.specs.NameTrees.{Tree, Listing, dir_at, entry_at}
 use Rattle.path_walk.specs.declared.part.Part.{Part}
 use Rattle.path_walk.specs.declared.part.Part.TheVariants.{Here, Up, Down, TooLong}
@@ -14,10 +14,15 @@ pub record Place : Type 0 where
   pub names : ℕ
   pub directory : ℕ
 
--- the directory that a node is; a name that is absent is ENOENT (XSH stat() and mkdir(), ERRORS)
+-- the directory that a node is; a name that is absent is ENOENT, and a file on the way ENOTDIR (XSH stat() and
+-- mkdir(), ERRORS). The store of the calls so far has directories alone: a link, which is not followed, is ELOOP and
+-- a mount, which is not entered, EXDEV (own).
 abbrev pub into : Option Node → Result ℕ Errno
 into None = Err Enoent
 into (Some (Dir id)) = Ok id
+into (Some (File file)) = Err Enotdir
+into (Some (Link id text)) = Err Eloop
+into (Some (Mount backend)) = Err Exdev
 
 -- the entry of that name in a directory, where the directory is there
 abbrev pub below : Option Listing → List ℕ → Result ℕ Errno

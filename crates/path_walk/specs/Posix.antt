@@ -35,13 +35,13 @@ status store (Ok place) = replied store Dir
 status store (Err error) = replied store (Fault error)
 
 -- a new directory in one that is there
-abbrev pub made_in : Store → ℕ → List ℕ → Listing → Option Node → Outcome
-made_in store id name directory (Some node) = replied store (Fault Eexist)
-made_in store id name directory None = record { store = with_names store 0 (grown (names_at store 0) id directory name); reply = Done }
+abbrev pub made_in : Store → ℕ → List ℕ → Option Node → Outcome
+made_in store id name (Some node) = replied store (Fault Eexist)
+made_in store id name None = record { store = with_names store 0 (grown (names_at store 0) id name); reply = Done }
 
 abbrev pub made_under : Store → ℕ → List ℕ → Option Listing → Outcome
 made_under store id name None = replied store (Fault Enoent)
-made_under store id name (Some directory) = made_in store id name directory (entry_at directory name)
+made_under store id name (Some directory) = made_in store id name (entry_at directory name)
 
 -- `mkdir` of the last component in the directory that those before it lead to. A last name counts as taken,
 -- a last `.` or `..` does not (own).

@@ -3,11 +3,11 @@
 use Rattle.std.specs.Prelude.{◌≡◌, ℕ, ◌==◌, zero, suc, if◌then◌else◌, List, [], ◌∷◌, Option, None, Some, Result, Ok, Err}
 use Rattle.std.specs.declared.alloc.AllocError.{AllocError}
 use Rattle.wf_core.specs.declared.errno.Errno.{Errno}
-use Rattle.wf_core.specs.declared.errno.Errno.TheVariants.{Enoent, Eexist, Enametoolong, Ecanceled, Enxio}
-use Rattle.name_store.specs.declared.operation.Node.TheVariants.{Dir as DirNode}
+use Rattle.wf_core.specs.declared.errno.Errno.TheVariants.{Enoent, Eexist, Enotdir, Eloop, Enametoolong, Exdev, Ecanceled, Enxio}
+use Rattle.name_store.specs.declared.operation.Node.TheVariants.{Dir as DirNode, Link as LinkNode, File as FileNode, Mount as MountNode}
 use Rattle.name_store.specs.declared.operation.NameOp.{NameOp}
 use Rattle.name_store.specs.declared.operation.NameOp.TheVariants.{Look, Parent, Makedir}
-use Rattle.name_store.specs.declared.operation.NameAnswer.TheVariants.{Gone, Absent, Found, Made, Fault as NameFault}
+use Rattle.name_store.specs.declared.operation.NameAnswer.TheVariants.{Found, Made, Fault as NameFault}
 use Rattle.path_walk.specs.declared.part.Part.{Part}
 use Rattle.path_walk.specs.declared.part.Part.TheVariants.{Here, Up, Down, TooLong}
 use Rattle.path_walk.specs.declared.step.CellId.{CellId}
@@ -30,13 +30,15 @@ pub data Program : Type 0 where
   finished : Reply → Program
   asks : CellId → StoreOp → (StepAnswer → Program) → Program
 
--- the directory that an answer to a look-up leads to, or the error that ends the call
+-- the directory that an answer to a look-up leads to, or the error that ends the call. No call here makes
+-- anything but directories: another's file is no directory, another's link is not followed, and a mount not entered.
 abbrev pub way_of : StepAnswer → Result ℕ Errno
 way_of (Answered (NamesAnswer (Found (DirNode id)))) = Ok id
+way_of (Answered (NamesAnswer (Found (FileNode file)))) = Err Enotdir
+way_of (Answered (NamesAnswer (Found (LinkNode id text)))) = Err Eloop
+way_of (Answered (NamesAnswer (Found (MountNode backend)))) = Err Exdev
 way_of (Answered (NamesAnswer (NameFault error))) = Err error
-way_of (Answered (NamesAnswer Gone)) = Err Enoent
-way_of (Answered (NamesAnswer Absent)) = Err Enoent
-way_of (Answered (NamesAnswer (Made id))) = Err Enoent
+way_of (Answered (NamesAnswer answer)) = Err Enoent
 way_of Cancelled = Err Ecanceled
 way_of Closed = Err Enxio
 
@@ -72,9 +74,8 @@ asked names here = finished Dir
 abbrev pub made_reply : StepAnswer → Reply
 made_reply (Answered (NamesAnswer (Made id))) = Done
 made_reply (Answered (NamesAnswer (NameFault error))) = Fault error
-made_reply (Answered (NamesAnswer Gone)) = Fault Enoent
-made_reply (Answered (NamesAnswer Absent)) = Fault Enoent
 made_reply (Answered (NamesAnswer (Found node))) = Fault Eexist
+made_reply (Answered (NamesAnswer answer)) = Fault Enoent
 made_reply Cancelled = Fault Ecanceled
 made_reply Closed = Fault Enxio
 

@@ -139,15 +139,18 @@ fn begin_mkdir(alloc: Global, path: &PathText) -> Result<Turn, AllocError>
     Ok(trail.proceed(0))
 }
 
-/// Where the answer to a look-up leads.
+/// Where the answer to a look-up leads. A file is no directory, and a link or a mount is not gone through.
 fn way(answer: StepAnswer) -> Result<u64, Errno>
     ensures { result ≡ way_of answer }
 {
     match answer {
         StepAnswer::Answered(StoreAnswer::Names(answer)) => match answer {
             NameAnswer::Found(Node::Dir(id)) => Ok(id),
+            NameAnswer::Found(Node::File(_)) => Err(Errno::Enotdir),
+            NameAnswer::Found(Node::Link(..)) => Err(Errno::Eloop),
+            NameAnswer::Found(Node::Mount(_)) => Err(Errno::Exdev),
             NameAnswer::Fault(errno) => Err(errno),
-            NameAnswer::Gone | NameAnswer::Absent | NameAnswer::Made(_) => Err(Errno::Enoent),
+            _ => Err(Errno::Enoent),
         },
         StepAnswer::Cancelled => Err(Errno::Ecanceled),
         StepAnswer::Closed => Err(Errno::Enxio),
@@ -163,7 +166,7 @@ fn made(answer: StepAnswer) -> Reply
             NameAnswer::Made(_) => Reply::Done,
             NameAnswer::Fault(errno) => Reply::Fault(errno),
             NameAnswer::Found(_) => Reply::Fault(Errno::Eexist),
-            NameAnswer::Gone | NameAnswer::Absent => Reply::Fault(Errno::Enoent),
+            _ => Reply::Fault(Errno::Enoent),
         },
         StepAnswer::Cancelled => Reply::Fault(Errno::Ecanceled),
         StepAnswer::Closed => Reply::Fault(Errno::Enxio),

@@ -14,13 +14,13 @@ pub enum StoreOp {
 }
 
 /// What an operation on a cell answers.
-#[derive(Clone, Copy, Debug, PartialEq, Eq)]
+#[derive(Debug, PartialEq, Eq, Drop)]
 pub enum StoreAnswer {
     Names(NameAnswer),
 }
 
 /// What a call is told of a step.
-#[derive(Clone, Copy, Debug, PartialEq, Eq)]
+#[derive(Debug, PartialEq, Eq, Drop)]
 pub enum StepAnswer {
     Answered(StoreAnswer),
     /// The worker of the cell's backend exited before it took the step.

@@ -15,7 +15,7 @@ pub(crate) struct RootStore {
 impl RootStore {
     /// The empty store.
     pub(crate) fn new(alloc: Global) -> Result<RootStore, AllocError>
-        ensures { IfOk result (λ store. store.names ≡ opening) }
+        ensures { IfOk result (λ store. store.names ≡ opening []) }
     {
         Ok(RootStore {
             names: NameTree::new(alloc, Vec::new(alloc))?,

@@ -12,7 +12,7 @@ use Rattle.trace_text.specs.Texts.{reply_line, tree_text, end_line}
 
 -- the store before the first call: the root's names, empty
 abbrev pub opening_store : Store
-opening_store = record { names = opening ∷ [] }
+opening_store = record { names = opening [] ∷ [] }
 
 -- the name of a thread by its number
 abbrev pub thread_name : List (List ℕ) → ℕ → List ℕ

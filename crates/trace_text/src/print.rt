@@ -1,5 +1,5 @@
 ghost use Rattle.std.specs.Prelude.{◌≡◌, ◌++◌, IfOk, OnOk, OnErr};
-ghost use Rattle.trace_text.specs.Texts.{end_line, fault_line, refusal_text, reply_line, reply_text, tree_text};
+ghost use Rattle.trace_text.specs.Texts.{end_line, fault_line, named_line, refusal_text, reply_line, reply_text, tree_text};
 
 use crate::refusal::TraceRefusal;
 use name_store::TreeLine;
@@ -48,14 +48,39 @@ pub fn push_reply_line(
 fn tree_line(alloc: Global, line: &TreeLine) -> Result<Vec<u8>, AllocError>
     ensures { IfOk result (λ text. text.items ≡ tree_text line.now) }
 {
-    let TreeLine::Dir(depth, name) = line;
-    let mut text = format!(in alloc; "dir {depth} ")?.into_bytes();
-    text.extend_from_slice(name.as_bytes())?;
-    text.push(b'\n')?;
+    match line {
+        TreeLine::Dir(depth, name) | TreeLine::Mount(depth, name, _) => {
+            named_line(alloc, "dir", *depth, name.as_bytes(), b"\n")
+        }
+        TreeLine::File(depth, name, _) => {
+            named_line(alloc, "file", *depth, name.as_bytes(), b" 0\n")
+        }
+        TreeLine::Link(depth, name, text) => {
+            let mut line = named_line(alloc, "link", *depth, name.as_bytes(), b" ")?;
+            line.extend_from_slice(text.as_bytes())?;
+            line.push(b'\n')?;
+            Ok(line)
+        }
+    }
+}
+
+fn named_line(
+    alloc: Global,
+    word: &str,
+    depth: u32,
+    name: &[u8],
+    rest: &[u8],
+) -> Result<Vec<u8>, AllocError>
+    ensures { IfOk result (λ text. text.items ≡ named_line word.now depth name.now rest.now) }
+{
+    let mut text = format!(in alloc; "{word} {depth} ")?.into_bytes();
+    text.extend_from_slice(name)?;
+    text.extend_from_slice(rest)?;
     Ok(text)
 }
 
-/// Appends `dir DEPTH NAME`. Want of memory changes nothing.
+/// Appends `dir DEPTH NAME`, `link DEPTH NAME TEXT` or `file DEPTH NAME 0`, since no store has a file's size yet.
+/// A mount is a `dir`. Want of memory changes nothing.
 pub fn push_tree_line(out: &mut Vec<u8>, line: &TreeLine) -> Result<(), AllocError>
     ensures ok { OnOk result (out.new.items ≡ out.old.items ++ tree_text line.now) }
     ensures err { OnErr result (out.new.items ≡ out.old.items) }

@@ -1,7 +1,9 @@
-ghost use Rattle.std.specs.Prelude.{◌≡◌, ℕ, ◌↔◌, true, false, List, IfOk, IsErrOf};
+ghost use Rattle.std.specs.Prelude.{◌≡◌, ℕ, ◌↔◌, true, false, List, IfOk, IsErrOf, nat_eq};
+ghost use Rattle.std.specs.Cmp.{partial_equiv_from_equiv};
+ghost use Rattle.std.specs.Cmp.Lexicographic.{pointwise, nat_list_eq_equiv};
 ghost use Rattle.wf_core.specs.Names.{has_no_nul};
 
-use std::alloc::Global;
+use std::alloc::{AllocError, Global};
 use std::marker::Model;
 
 /// The text of a path or of a link: bytes without byte 0.
@@ -55,4 +57,28 @@ impl PathText {
     {
         self.bytes.as_slice()
     }
+}
+
+impl Clone for PathText {
+    ghost is_clone = { λ path copy. copy ≡ path };
+
+    fn clone(&self) -> Result<PathText, AllocError> {
+        Ok(PathText {
+            bytes: Vec::from_slice(*self.bytes.allocator(), self.bytes.as_slice())?,
+        })
+    }
+}
+
+impl PartialEq for PathText {
+    ghost eq = { λ a b. pointwise nat_eq a b };
+
+    ghost laws = { partial_equiv_from_equiv nat_list_eq_equiv };
+
+    fn eq(&self, other: &PathText) -> bool {
+        self.bytes.as_slice() == other.bytes.as_slice()
+    }
+}
+
+impl Eq for PathText {
+    ghost laws = { nat_list_eq_equiv };
 }

@@ -20,4 +20,4 @@ returns t c =
     let below = entry_lines (lines_below (c.args.levels - 1) c.args.self.now (c.args.depth + 1)) (c.args.depth + 1) in
     c.loop-name.invariant.2
     ∙ ap (λ es. c.args.lines.now.items ++ flat_map below es) all
-    ∙ ap (λ ls. c.args.lines.now.items ++ ls) (one_level c.args.self.now c.args.levels c.args.depth c.args.id c.in-Some.directory.now c.if-levels-eq0.false (sym c.in-Some.ensures))
+    ∙ ap (λ ls. c.args.lines.now.items ++ ls) (one_level c.args.self.now c.args.levels c.args.depth c.args.id c.in-Some.directory.now c.if-levels-eq0.false (ap (λ (tree : Tree). dir_at tree c.args.id) (sym c.self.view_is) ∙ sym c.in-Some.ensures.directory))

@@ -1,0 +1,61 @@
+-- The forms of answer that each operation has.
+use Rattle.std.specs.Prelude.{◌≡◌, ◌≤◌, length}
+use Rattle.wf_core.specs.declared.errno.Errno.{Errno}
+use Rattle.wf_core.specs.declared.errno.Errno.TheVariants.{Enoent, Eexist, Enotdir, Eisdir, Enotempty, Einval, Ebusy}
+use Rattle.name_store.specs.declared.operation.Node.{Node}
+use Rattle.name_store.specs.declared.operation.Node.TheVariants.{Dir}
+use Rattle.name_store.specs.declared.operation.NameOp.{NameOp}
+use Rattle.name_store.specs.declared.operation.NameOp.TheVariants.{Look, Parent, Makedir, Addlink, Addfile, Remfile, Remdir, Move, List as ListOp}
+use Rattle.name_store.specs.declared.operation.NameAnswer.{NameAnswer}
+use Rattle.name_store.specs.declared.operation.NameAnswer.TheVariants.{Gone, Absent, Found, Made, Taken, Done, RemovedFile, RemovedLink, Same, Over, Moved, Names, Fault}
+use Rattle.name_store.specs.NameTrees.{names_max}
+
+-- the errors that an operation answers
+abbrev pub RemfileFault : Errno → Type 0
+RemfileFault Enoent = Unit {0}
+RemfileFault Eisdir = Unit {0}
+RemfileFault Enotdir = Unit {0}
+RemfileFault error = ⊥
+
+abbrev pub RemdirFault : Errno → Type 0
+RemdirFault Enoent = Unit {0}
+RemdirFault Ebusy = Unit {0}
+RemdirFault Enotdir = Unit {0}
+RemdirFault Enotempty = Unit {0}
+RemdirFault error = ⊥
+
+abbrev pub MoveFault : Errno → Type 0
+MoveFault Enoent = Unit {0}
+MoveFault Ebusy = Unit {0}
+MoveFault Enotdir = Unit {0}
+MoveFault Einval = Unit {0}
+MoveFault Eisdir = Unit {0}
+MoveFault Enotempty = Unit {0}
+MoveFault error = ⊥
+
+abbrev pub IsDir : Node → Type 0
+IsDir (Dir id) = Unit {0}
+IsDir node = ⊥
+
+abbrev pub IsForm : NameOp → NameAnswer → Type 0
+IsForm op Gone = Unit {0}
+IsForm (Look id name) Absent = Unit {0}
+IsForm (Look id name) (Found node) = Unit {0}
+IsForm (Parent id) (Found node) = IsDir node
+IsForm (Makedir id name) (Made other) = Unit {0}
+IsForm (Makedir id name) (Fault error) = error ≡ Eexist
+IsForm (Addlink id name text) (Made other) = Unit {0}
+IsForm (Addlink id name text) (Fault error) = error ≡ Eexist
+IsForm (Addfile id name file) (Taken node) = Unit {0}
+IsForm (Addfile id name file) Done = Unit {0}
+IsForm (Remfile id name slash) (RemovedFile file) = Unit {0}
+IsForm (Remfile id name slash) RemovedLink = Unit {0}
+IsForm (Remfile id name slash) (Fault error) = RemfileFault error
+IsForm (Remdir id name) Done = Unit {0}
+IsForm (Remdir id name) (Fault error) = RemdirFault error
+IsForm (Move from name to other slash) Same = Unit {0}
+IsForm (Move from name to other slash) (Over file) = Unit {0}
+IsForm (Move from name to other slash) Moved = Unit {0}
+IsForm (Move from name to other slash) (Fault error) = MoveFault error
+IsForm (ListOp id start) (Names names) = length names ≤ names_max
+IsForm op answer = ⊥

@@ -1,0 +1,186 @@
+ghost use Rattle.std.specs.Prelude.{◌≡◌, ◌<◌, ℕ, ◌∷◌, [], length, None, IsSome, IfOk, OnOk, OnErr, option_copied, option_map};
+ghost use Rattle.name_store.specs.NameTrees.{Tree, dir_at, entered, freed, grown, is_empty, is_inside, linked, opening, settled, unlinked, up, with_entry};
+
+use crate::directory::Directory;
+use crate::operation::Node;
+use std::alloc::{AllocError, Global};
+use std::marker::Model;
+use wf_core::{Name, PathText};
+
+/// The directories of a tree, by their ids. A link's id and a removed directory's have none.
+#[derive(Drop)]
+pub(crate) struct Directories {
+    slots: Vec<Option<Directory>>,
+}
+
+impl Model for Directories {
+    ghost Value = { Tree };
+
+    ghost view = { λ d. d.slots.items };
+}
+
+impl Directories {
+    /// The root alone, with the backends that are mounted in it.
+    pub(crate) fn new(alloc: Global, mounts: Vec<(Name, u32)>) -> Result<Directories, AllocError>
+        ensures { IfOk result (λ tree. tree ≡ opening mounts.items) }
+    {
+        let mut root = Directory::new(alloc, 0);
+        for (name, backend) in mounts {
+            root.enter(name, Node::Mount(backend))?;
+        }
+        let mut slots = Vec::new(alloc);
+        slots.push(Some(root))?;
+        Ok(Directories { slots })
+    }
+
+    /// How many ids were given, which is the next one.
+    pub(crate) fn next_id(&self) -> u64
+        ensures { result ≡ length self.now }
+    {
+        self.slots.len() as u64
+    }
+
+    pub(crate) fn get(&self, id: u64) -> Option<&Directory>
+        ensures directory { option_copied result ≡ dir_at self.now id }
+        ensures within { IsSome result → id < length self.now }
+    {
+        match self.slots.get(id as usize) {
+            Some(Some(directory)) => Some(directory),
+            _ => None,
+        }
+    }
+
+    pub(crate) fn is_empty(&self, id: u64) -> bool
+        ensures { result ≡ is_empty (dir_at self.now id) }
+    {
+        match self.get(id) {
+            Some(directory) => directory.is_empty(),
+            None => true,
+        }
+    }
+
+    fn up(&self, id: u64) -> u64
+        ensures { result ≡ up self.now id }
+    {
+        match self.get(id) {
+            Some(directory) => directory.parent(),
+            None => 0,
+        }
+    }
+
+    /// Whether directory `top` is met on the way from `id` up to the root.
+    pub(crate) fn is_inside(&self, top: u64, id: u64) -> bool
+        ensures { result ≡ is_inside (length self.now) self.now top id }
+    {
+        let mut here = id;
+        for _ in 0..self.slots.len() {
+            if here == top {
+                return true;
+            }
+            if here == 0 {
+                return false;
+            }
+            here = self.up(here);
+        }
+        false
+    }
+
+    /// Enters a node in a directory under that name, in the place of what is there.
+    pub(crate) fn enter(&mut self, id: u64, name: Name, node: Node) -> Result<(), AllocError>
+        ensures ok { OnOk result (self.new ≡ entered self.old id name node) }
+        ensures err { OnErr result (self.new ≡ self.old) }
+    {
+        let index = id as usize;
+        if index >= self.slots.len() {
+            return Ok(());
+        }
+        enter_slot(&mut self.slots[index], name, node)
+    }
+
+    /// Takes an entry out of a directory.
+    pub(crate) fn unlink(&mut self, id: u64, name: &Name)
+        ensures { self.new ≡ unlinked self.old id name.now }
+    {
+        let index = id as usize;
+        if index >= self.slots.len() {
+            return;
+        }
+        let slot = &mut self.slots[index];
+        let Some(directory) = slot else {
+            return;
+        };
+        directory.unlink(name);
+    }
+
+    /// Gives a directory, where there is one, its new parent.
+    pub(crate) fn settle(&mut self, child: Option<u64>, parent: u64)
+        ensures { self.new ≡ settled self.old child parent }
+    {
+        let Some(id) = child else {
+            return;
+        };
+        let index = id as usize;
+        if index >= self.slots.len() {
+            return;
+        }
+        let slot = &mut self.slots[index];
+        let Some(directory) = slot else {
+            return;
+        };
+        directory.settle(parent);
+    }
+
+    /// Ends a directory, where there is one. Its id is not used again.
+    pub(crate) fn free(&mut self, child: Option<u64>)
+        ensures { self.new ≡ freed self.old child }
+    {
+        let Some(id) = child else {
+            return;
+        };
+        let index = id as usize;
+        if index >= self.slots.len() {
+            return;
+        }
+        self.slots[index] = None;
+    }
+
+    /// Makes an empty directory under that name in a directory.
+    pub(crate) fn grow(&mut self, id: u64, name: Name) -> Result<u64, AllocError>
+        requires { id < length self.old }
+        ensures made { IfOk result (λ made. made ≡ length self.old) }
+        ensures ok { OnOk result (self.new ≡ grown self.old id name) }
+        ensures err { OnErr result (self.new ≡ self.old) }
+    {
+        let made = self.slots.len() as u64;
+        self.slots.reserve(1)?;
+        enter_slot(&mut self.slots[id as usize], name, Node::Dir(made))?;
+        let alloc = *self.slots.allocator();
+        self.slots.push_reserved(Some(Directory::new(alloc, id)));
+        Ok(made)
+    }
+
+    /// Makes a link under that name in a directory. It takes an id, which has no directory.
+    pub(crate) fn link(&mut self, id: u64, name: Name, text: PathText) -> Result<u64, AllocError>
+        requires { id < length self.old }
+        ensures made { IfOk result (λ made. made ≡ length self.old) }
+        ensures ok { OnOk result (self.new ≡ linked self.old id name text) }
+        ensures err { OnErr result (self.new ≡ self.old) }
+    {
+        let made = self.slots.len() as u64;
+        self.slots.reserve(1)?;
+        enter_slot(&mut self.slots[id as usize], name, Node::Link(made, text))?;
+        self.slots.push_reserved(None);
+        Ok(made)
+    }
+}
+
+/// Enters a node in the directory of a slot, where there is one.
+fn enter_slot(slot: &mut Option<Directory>, name: Name, node: Node) -> Result<(), AllocError>
+    ensures ok { OnOk result (slot.new ≡ option_map (λ directory. with_entry directory name node) slot.old) }
+    ensures err { OnErr result (slot.new ≡ slot.old) }
+{
+    match slot {
+        Some(directory) => directory.enter(name, node),
+        None => Ok(()),
+    }
+}

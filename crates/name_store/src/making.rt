@@ -1,0 +1,61 @@
+ghost use Rattle.std.specs.Prelude.{◌≡◌, IfOk, OnErr};
+ghost use Rattle.name_store.specs.NameTrees.{dir_at, filed_in, linked_in, made_in};
+
+use crate::directories::Directories;
+use crate::operation::{NameAnswer, Node};
+use std::alloc::AllocError;
+use wf_core::{Errno, Name, PathText};
+
+impl Directories {
+    pub(crate) fn makedir(&mut self, id: u64, name: &Name) -> Result<NameAnswer, AllocError>
+        ensures ok { IfOk result (λ answer. made_in self.old id name.now (dir_at self.old id) ≡ record { tree = self.new; answer = answer }) }
+        ensures err { OnErr result (self.new ≡ self.old) }
+    {
+        let Some(directory) = self.get(id) else {
+            return Ok(NameAnswer::Gone);
+        };
+        if directory.entry(name).is_some() {
+            return Ok(NameAnswer::Fault(Errno::Eexist));
+        }
+        let made = self.grow(id, name.clone()?)?;
+        Ok(NameAnswer::Made(made))
+    }
+
+    pub(crate) fn addlink(
+        &mut self,
+        id: u64,
+        name: &Name,
+        text: &PathText,
+    ) -> Result<NameAnswer, AllocError>
+        ensures ok { IfOk result (λ answer. linked_in self.old id name.now text.now (dir_at self.old id) ≡ record { tree = self.new; answer = answer }) }
+        ensures err { OnErr result (self.new ≡ self.old) }
+    {
+        let Some(directory) = self.get(id) else {
+            return Ok(NameAnswer::Gone);
+        };
+        if directory.entry(name).is_some() {
+            return Ok(NameAnswer::Fault(Errno::Eexist));
+        }
+        let made = self.link(id, name.clone()?, text.clone()?)?;
+        Ok(NameAnswer::Made(made))
+    }
+
+    pub(crate) fn addfile(
+        &mut self,
+        id: u64,
+        name: &Name,
+        file: u64,
+    ) -> Result<NameAnswer, AllocError>
+        ensures ok { IfOk result (λ answer. filed_in self.old id name.now file (dir_at self.old id) ≡ record { tree = self.new; answer = answer }) }
+        ensures err { OnErr result (self.new ≡ self.old) }
+    {
+        let Some(directory) = self.get(id) else {
+            return Ok(NameAnswer::Gone);
+        };
+        if let Some(node) = directory.entry(name) {
+            return Ok(NameAnswer::Taken(node.clone()?));
+        }
+        self.enter(id, name.clone()?, Node::File(file))?;
+        Ok(NameAnswer::Done)
+    }
+}

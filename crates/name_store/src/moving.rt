@@ -1,0 +1,138 @@
+ghost use Rattle.std.specs.Prelude.{◌≡◌, IfOk, OnOk, OnErr, option_copied};
+ghost use Rattle.name_store.specs.NameTrees.{dir_at, dir_in, dir_of, entered, freed, is_same_entry, mount_fault, move_answer, move_fault, moved_in, over_fault, settled, unlinked};
+
+use crate::directories::Directories;
+use crate::operation::{NameAnswer, Node};
+use std::alloc::AllocError;
+use wf_core::{Errno, Name};
+
+impl Directories {
+    /// Moves the entry `name` of directory `from` to the entry `other` of directory `to`.
+    pub(crate) fn move_entry(
+        &mut self,
+        from: u64,
+        name: &Name,
+        to: u64,
+        other: &Name,
+        slash: bool,
+    ) -> Result<NameAnswer, AllocError>
+        ensures ok { IfOk result (λ answer. moved_in self.old from name.now to other.now slash (dir_at self.old from) (dir_at self.old to)
+            ≡ record { tree = self.new; answer = answer }) }
+        ensures err { OnErr result (self.new ≡ self.old) }
+    {
+        let Some(source) = self.get(from) else {
+            return Ok(NameAnswer::Gone);
+        };
+        let Some(target) = self.get(to) else {
+            return Ok(NameAnswer::Gone);
+        };
+        let Some(node) = source.entry(name) else {
+            return Ok(NameAnswer::Fault(Errno::Enoent));
+        };
+        let over = target.entry(other);
+        if let Some(errno) = self.move_fault(node, to, slash) {
+            return Ok(NameAnswer::Fault(errno));
+        }
+        if let Some(errno) = mount_fault(over) {
+            return Ok(NameAnswer::Fault(errno));
+        }
+        if is_same_entry(from, name, to, other) {
+            return Ok(NameAnswer::Same);
+        }
+        if let Some(errno) = self.over_fault(node, over) {
+            return Ok(NameAnswer::Fault(errno));
+        }
+        let answer = move_answer(over);
+        let replaced = directory_in(over);
+        let node = node.clone()?;
+        self.relocate(from, name, to, other.clone()?, node, replaced)?;
+        Ok(answer)
+    }
+
+    /// Why a node is not moved to directory `to`, whatever is there.
+    fn move_fault(&self, node: &Node, to: u64, slash: bool) -> Option<Errno>
+        ensures { result ≡ move_fault self.now node.now to slash }
+    {
+        match node {
+            Node::Mount(_) => Some(Errno::Ebusy),
+            Node::File(_) | Node::Link(..) if slash => Some(Errno::Enotdir),
+            Node::Dir(id) if self.is_inside(*id, to) => Some(Errno::Einval),
+            Node::File(_) | Node::Link(..) | Node::Dir(_) => None,
+        }
+    }
+
+    /// Why a node does not take the place of another.
+    fn over_fault(&self, node: &Node, over: Option<&Node>) -> Option<Errno>
+        ensures { result ≡ over_fault self.now node.now (option_copied over.entry) }
+    {
+        match (node, over?) {
+            (Node::Dir(_), Node::Dir(other)) if self.is_empty(*other) => None,
+            (Node::Dir(_), Node::Dir(_)) => Some(Errno::Enotempty),
+            (Node::Dir(_), _) => Some(Errno::Enotdir),
+            (_, Node::Dir(_)) => Some(Errno::Eisdir),
+            _ => None,
+        }
+    }
+
+    /// Makes the move. The entry is put at its new place first, since that alone can want memory.
+    fn relocate(
+        &mut self,
+        from: u64,
+        name: &Name,
+        to: u64,
+        other: Name,
+        node: Node,
+        replaced: Option<u64>,
+    ) -> Result<(), AllocError>
+        ensures ok { OnOk result (self.new ≡ freed (settled (unlinked (entered self.old to other node) from name.now) (dir_of node) to) replaced) }
+        ensures err { OnErr result (self.new ≡ self.old) }
+    {
+        let child = directory_of(&node);
+        self.enter(to, other, node)?;
+        self.unlink(from, name);
+        self.settle(child, to);
+        self.free(replaced);
+        Ok(())
+    }
+}
+
+fn is_same_entry(from: u64, name: &Name, to: u64, other: &Name) -> bool
+    ensures { result ≡ is_same_entry from name.now to other.now }
+{
+    from == to && name == other
+}
+
+/// A mount is not replaced.
+fn mount_fault(over: Option<&Node>) -> Option<Errno>
+    ensures { result ≡ mount_fault (option_copied over.entry) }
+{
+    match over {
+        Some(Node::Mount(_)) => Some(Errno::Ebusy),
+        _ => None,
+    }
+}
+
+fn move_answer(over: Option<&Node>) -> NameAnswer
+    ensures { result ≡ move_answer (option_copied over.entry) }
+{
+    match over {
+        Some(Node::File(file)) => NameAnswer::Over(*file),
+        _ => NameAnswer::Moved,
+    }
+}
+
+/// The directory that a node is.
+fn directory_of(node: &Node) -> Option<u64>
+    ensures { result ≡ dir_of node.now }
+{
+    match node {
+        Node::Dir(id) => Some(*id),
+        _ => None,
+    }
+}
+
+fn directory_in(over: Option<&Node>) -> Option<u64>
+    ensures { result ≡ dir_in (option_copied over.entry) }
+{
+    directory_of(over?)
+}

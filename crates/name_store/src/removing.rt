@@ -1,0 +1,45 @@
+ghost use Rattle.std.specs.Prelude.{◌≡◌};
+ghost use Rattle.name_store.specs.NameTrees.{dir_at, removed_dir_in, removed_file_in};
+
+use crate::directories::Directories;
+use crate::operation::{NameAnswer, Node};
+use wf_core::{Errno, Name};
+
+impl Directories {
+    pub(crate) fn remfile(&mut self, id: u64, name: &Name, slash: bool) -> NameAnswer
+        ensures { removed_file_in self.old id name.now slash (dir_at self.old id) ≡ record { tree = self.new; answer = result } }
+    {
+        let Some(directory) = self.get(id) else {
+            return NameAnswer::Gone;
+        };
+        let removed = match directory.entry(name) {
+            None => return NameAnswer::Fault(Errno::Enoent),
+            Some(Node::Dir(_) | Node::Mount(_)) => return NameAnswer::Fault(Errno::Eisdir),
+            Some(_) if slash => return NameAnswer::Fault(Errno::Enotdir),
+            Some(Node::File(file)) => NameAnswer::RemovedFile(*file),
+            Some(Node::Link(..)) => NameAnswer::RemovedLink,
+        };
+        self.unlink(id, name);
+        removed
+    }
+
+    pub(crate) fn remdir(&mut self, id: u64, name: &Name) -> NameAnswer
+        ensures { removed_dir_in self.old id name.now (dir_at self.old id) ≡ record { tree = self.new; answer = result } }
+    {
+        let Some(directory) = self.get(id) else {
+            return NameAnswer::Gone;
+        };
+        let child = match directory.entry(name) {
+            None => return NameAnswer::Fault(Errno::Enoent),
+            Some(Node::Mount(_)) => return NameAnswer::Fault(Errno::Ebusy),
+            Some(Node::File(_) | Node::Link(..)) => return NameAnswer::Fault(Errno::Enotdir),
+            Some(Node::Dir(child)) => *child,
+        };
+        if !self.is_empty(child) {
+            return NameAnswer::Fault(Errno::Enotempty);
+        }
+        self.unlink(id, name);
+        self.free(Some(child));
+        NameAnswer::Done
+    }
+}
