@@ -1,2 +1,14 @@
 pub mod Slots
 pub mod Formed
+pub mod Entries
+pub mod Changes
+pub mod Climbs
+pub mod Edits
+pub mod Transitions
+pub mod Moves
+pub mod Orders
+pub mod Makings
+pub mod Takings
+pub mod Relocations
+pub mod Soundness
+pub mod Refusals

@@ -1,3 +1,5 @@
 pub mod NameTrees
 pub mod Forms
+pub mod Sound
+pub mod Laws
 pub mod TreeLines

@@ -33,6 +33,10 @@ impl Directories {
         Ok(Directories { slots })
     }
 
+    pub(crate) fn alloc(&self) -> Global {
+        *self.slots.allocator()
+    }
+
     /// How many ids were given, which is the next one.
     pub(crate) fn next_id(&self) -> u64
         ensures { result ≡ length self.now }

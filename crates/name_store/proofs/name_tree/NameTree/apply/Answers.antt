@@ -1,15 +1,11 @@
-use Rattle.std.proofs.Common.{IfOk, sym, subst}
-use Rattle.name_store.specs.declared.operation.NameOp.{NameOp}
-use Rattle.name_store.specs.Forms.{IsForm}
-use Rattle.name_store.proofs.Formed.{move_form, list_form}
+use Rattle.name_store.proofs.Refusals.{step_keeps_sound, step_unchanged}
 use Rattle.name_store.proofs.name_tree.NameTree.apply.Goals as goal
 
-pub returns-in-Move-clause-form : goal.returns-in-Move-clause-form
-returns-in-Move-clause-form c =
-    subst (λ (op : NameOp). IfOk c.move_entry.result (IsForm op)) (sym c.in-Move.is)
-    (move_form c.self.inside.directories c.move_entry.new.self c.in-Move.from c.in-Move.name c.in-Move.to c.in-Move.other c.in-Move.slash c.move_entry.result c.move_entry.ensures.ok)
+pub invariant_of-self : goal.invariant_of-self
+invariant_of-self c = step_keeps_sound c.self.inside.directories c.step.new.self c.args.op.now c.step.result c.self.invariant c.step.ensures.ok c.step.ensures.err
 
-pub returns-in-List-clause-form : goal.returns-in-List-clause-form
-returns-in-List-clause-form c =
-    subst (λ (op : NameOp). IfOk c.list.result (IsForm op)) (sym c.in-List.is)
-    (list_form _ c.in-List.id c.in-List.start c.list.result c.list.ensures)
+pub returns-clause-unchanged : goal.returns-clause-unchanged
+returns-clause-unchanged c = rw (← c.self.view_is) (step_unchanged c.self.inside.directories c.step.new.self c.args.op.now c.step.result c.step.ensures.ok)
+
+pub returns-clause-sound : goal.returns-clause-sound
+returns-clause-sound c = step_keeps_sound c.self.inside.directories c.step.new.self c.args.op.now c.step.result c.self.invariant c.step.ensures.ok c.step.ensures.err

@@ -2,7 +2,7 @@ use Rattle.std.proofs.Common.{◌≡◌, ◌+◌, ◌-◌, ◌++◌, map}
 use Rattle.std.specs.List.{flat_map}
 use Rattle.std.specs.Map.Iter.{deref_pair}
 use Rattle.name_store.specs.TreeLines.{entry_lines, lines_below}
-use Rattle.name_store.proofs.name_tree.NameTree.+add_lines.Given as goal
+use Rattle.name_store.proofs.directories.Directories.+add_lines.Given as goal
 
 abbrev pub decreases-add_lines : goal.decreases-add_lines
 decreases-add_lines l = l.levels

@@ -4,7 +4,7 @@ use Rattle.std.specs.Map.Iter.{deref_pair}
 use Rattle.std.proofs.lemmas.Map.Iter.{iter_end}
 use Rattle.name_store.specs.NameTrees.{Tree, Listing, dir_at}
 use Rattle.name_store.specs.TreeLines.{entries_in, entry_lines, lines_below}
-use Rattle.name_store.proofs.name_tree.NameTree.+add_lines.Goals as goal
+use Rattle.name_store.proofs.directories.Directories.+add_lines.Goals as goal
 
 -- one level is the lines of the directory's entries
 one_level : (tree : Tree) (levels depth id : ℕ) (directory : Listing) → levels ≢ 0 → dir_at tree id ≡ Some directory → flat_map (entry_lines (lines_below (levels - 1) tree (depth + 1)) (depth + 1)) directory.entries ≡ lines_below levels tree depth id
@@ -20,4 +20,4 @@ returns t c =
     let below = entry_lines (lines_below (c.args.levels - 1) c.args.self.now (c.args.depth + 1)) (c.args.depth + 1) in
     c.loop-name.invariant.2
     ∙ ap (λ es. c.args.lines.now.items ++ flat_map below es) all
-    ∙ ap (λ ls. c.args.lines.now.items ++ ls) (one_level c.args.self.now c.args.levels c.args.depth c.args.id c.in-Some.directory.now c.if-levels-eq0.false (ap (λ (tree : Tree). dir_at tree c.args.id) (sym c.self.view_is) ∙ sym c.in-Some.ensures.directory))
+    ∙ ap (λ ls. c.args.lines.now.items ++ ls) (one_level c.args.self.now c.args.levels c.args.depth c.args.id c.in-Some.directory.now c.if-levels-eq0.false (sym c.in-Some.ensures.directory))
