@@ -6,10 +6,10 @@ use Rattle.name_store.specs.NameTrees.{Tree, Listing, above, dir_at, is_inside, 
 use Rattle.name_store.specs.Sound.{parent_of, parent_at, climb}
 use Rattle.name_store.proofs.Changes.{same_id, dir_within}
 
-is_same : (a b : ℕ) → a ≡ b → (a == b) ≡ true
+pub is_same : (a b : ℕ) → a ≡ b → (a == b) ≡ true
 is_same a b e = grind (arith, nat_tests)
 
-is_other : (a b : ℕ) → a ≢ b → (a == b) ≡ false
+pub is_other : (a b : ℕ) → a ≢ b → (a == b) ≡ false
 is_other a b ne = grind (arith, nat_tests)
 
 -- `last` in the place of `size`
@@ -90,12 +90,12 @@ reached tree few many id root le h =
     ∙ climb_root tree (many - few) root
 
 -- the first time that the root is reached
-record First (tree : Tree) (id : ℕ) : Type 0 where
-  steps : ℕ
-  there : climb tree steps id ≡ 0
-  before : (k : ℕ) → k < steps → climb tree k id ≢ 0
+pub record First (tree : Tree) (id : ℕ) : Type 0 where
+  pub steps : ℕ
+  pub there : climb tree steps id ≡ 0
+  pub before : (k : ℕ) → k < steps → climb tree k id ≢ 0
 
-first : (tree : Tree) (steps id : ℕ) → climb tree steps id ≡ 0 → First tree id
+pub first : (tree : Tree) (steps id : ℕ) → climb tree steps id ≡ 0 → First tree id
 first tree zero id h = record { steps = 0; there = h; before = λ k lt. absurd (omega arith) }
 first tree (suc steps) id h =
     elim (same_id id 0) [
@@ -113,7 +113,7 @@ first tree (suc steps) id h =
 abbrev pub HasParents : Tree → Type 0
 HasParents tree = (id parent : ℕ) → parent_at tree id ≡ Some parent → (next : ℕ) × (parent_at tree parent ≡ Some next)
 
-climb_there : (tree : Tree) → HasParents tree → (steps id parent : ℕ) → parent_at tree id ≡ Some parent → (next : ℕ) × (parent_at tree (climb tree steps id) ≡ Some next)
+pub climb_there : (tree : Tree) → HasParents tree → (steps id parent : ℕ) → parent_at tree id ≡ Some parent → (next : ℕ) × (parent_at tree (climb tree steps id) ≡ Some next)
 climb_there tree there zero id parent h = (parent, h)
 climb_there tree there (suc steps) id parent h =
     let (next, is) = there id parent h in
@@ -121,7 +121,7 @@ climb_there tree there (suc steps) id parent h =
 
 module _ (tree : Tree) (id : ℕ) (way : First tree id) where
   -- no directory is met twice on the way to the root
-  apart_before : (j k : ℕ) → j < k → k ≤ way.steps → climb tree j id ≡ climb tree k id → ⊥
+  pub apart_before : (j k : ℕ) → j < k → k ≤ way.steps → climb tree j id ≡ climb tree k id → ⊥
   apart_before j k lt le e =
       let again : climb tree (j + (way.steps - k)) id ≡ 0 =
       climb_on tree j (j + (way.steps - k)) (way.steps - k) id refl
@@ -140,11 +140,18 @@ module _ (tree : Tree) (id : ℕ) (way : First tree id) where
         ]
       ]
 
+-- the root is reached in fewer steps than there are ids
+pub few_steps : (tree : Tree) (id parent : ℕ) (way : First tree id) → HasParents tree → parent_at tree id ≡ Some parent → way.steps < length tree
+few_steps tree id parent way there h =
+    pigeon (length tree) way.steps (λ k. climb tree k id)
+    (λ k le. (let (next, is) = climb_there tree there k id parent h in parent_within tree (climb tree k id) next is))
+    (one_place tree id way)
+
 -- where the root is reached at all, it is reached within as many steps as there are ids
 pub reaches_root : (tree : Tree) (id parent steps : ℕ) → up tree 0 ≡ 0 → HasParents tree → parent_at tree id ≡ Some parent → climb tree steps id ≡ 0 → climb tree (length tree) id ≡ 0
 reaches_root tree id parent steps root there h reaches =
     let way = first tree steps id reaches in
-    let few : way.steps < length tree = pigeon (length tree) way.steps (λ k. climb tree k id) (λ k le. (let (next, is) = climb_there tree there k id parent h in parent_within tree (climb tree k id) next is)) (one_place tree id way) in
+    let few : way.steps < length tree = few_steps tree id parent way there h in
     reached tree way.steps (length tree) id root (omega arith) way.there
 
 -- ways up through directories that have the same above them

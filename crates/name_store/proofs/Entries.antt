@@ -73,7 +73,7 @@ pub entered_other : (entries : Entries) (name other : List ℕ) (node : Node) �
 entered_other entries name other node ne = entered_other_test entries name other node (test_apart other name ne)
 
 -- a name that is below all others is not among them
-absent_below : (name : List ℕ) (entries : Entries) → AllByRecursion (λ other. byte_order name other ≡ Less) (keys_of entries) → at name entries ≡ None
+pub absent_below : (name : List ℕ) (entries : Entries) → AllByRecursion (λ other. byte_order name other ≡ Less) (keys_of entries) → at name entries ≡ None
 absent_below name [] h = refl
 absent_below name (entry ∷ entries) h =
     let first : is_at (byte_order name) entry.0 ≡ false = ap is_eq h.0 in
@@ -168,3 +168,21 @@ removed_sorted (entry ∷ entries) name sorted =
     removed_sorted_step entry entries _ (is_at (byte_order name) entry.0) (sorted_tail byte_order entry.0 (keys_of entries) sorted)
     (below_removed entry.0 name entries (sorted_head byte_order entry.0 (keys_of entries) sorted))
     (removed_sorted entries name (sorted_tail byte_order entry.0 (keys_of entries) sorted))
+
+-- the first entry stands under its name
+pub at_first : (entry : List ℕ × Node) (entries : Entries) → at entry.0 (entry ∷ entries) ≡ Some entry.1
+at_first entry entries = rw (tied entry.0) refl
+
+-- what stands in the entries after the first stands in all of them, and under another name than the first
+pub at_later : (entry : List ℕ × Node) (entries : Entries) (name : List ℕ) (node : Node) → IsStrictlySortedBy byte_order (keys_of (entry ∷ entries)) → at name entries ≡ Some node → (name ≢ entry.0) × (at name (entry ∷ entries) ≡ Some node)
+at_later entry entries name node sorted h =
+    let none : at entry.0 entries ≡ None = absent_below entry.0 entries (sorted_head byte_order entry.0 (keys_of entries) sorted) in
+    let ne : name ≢ entry.0 = λ e. (let clash : Some node ≡ None = sym h ∙ ap (λ (n : List ℕ). at n entries) e ∙ none in cc) in
+    let passes : is_at (byte_order name) entry.0 ≡ false = test_apart name entry.0 ne in
+    (ne, ap (λ (b : Bool). cond b (Some entry.1) (at name entries)) passes ∙ h)
+
+-- what stands in all of them under another name than the first stands in those after it
+pub at_other : (entry : List ℕ × Node) (entries : Entries) (name : List ℕ) (node : Node) → name ≢ entry.0 → at name (entry ∷ entries) ≡ Some node → at name entries ≡ Some node
+at_other entry entries name node ne h =
+    let passes : is_at (byte_order name) entry.0 ≡ false = test_apart name entry.0 ne in
+    sym (ap (λ (b : Bool). cond b (Some entry.1) (at name entries)) passes) ∙ h

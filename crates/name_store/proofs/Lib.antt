@@ -12,3 +12,5 @@ pub mod Takings
 pub mod Relocations
 pub mod Soundness
 pub mod Refusals
+pub mod Printed
+pub mod Counted

@@ -5,6 +5,7 @@ use Rattle.name_store.specs.declared.operation.NameAnswer.{NameAnswer}
 use Rattle.name_store.specs.declared.operation.NameAnswer.TheVariants.{Gone, Absent, Found, Made, Taken, Done, RemovedFile, RemovedLink, Same, Over, Moved, Names, Fault}
 use Rattle.name_store.specs.NameTrees.{Tree, nstep, opening}
 use Rattle.name_store.specs.Sound.{IsSound}
+use Rattle.name_store.specs.Visits.{LinesAreEntries}
 
 -- the tree before the first operation is sound, and each operation leaves a sound tree sound
 abbrev pub OpeningsAreSound : Type 0
@@ -31,3 +32,7 @@ LeavesTree Moved = ⊥
 
 abbrev pub RefusalsChangeNothing : Type 0
 RefusalsChangeNothing = (tree : Tree) (op : NameOp) → LeavesTree (nstep tree op).answer → (nstep tree op).tree ≡ tree
+
+-- the lines of a sound tree are of its entries, each once: so none is cut off
+abbrev pub LinesNameEachOnce : Type 0
+LinesNameEachOnce = (tree : Tree) → IsSound tree → LinesAreEntries tree

@@ -3,3 +3,4 @@ pub mod Forms
 pub mod Sound
 pub mod Laws
 pub mod TreeLines
+pub mod Visits

@@ -1,6 +1,6 @@
 //! What a user may conclude from the definitions. The functions do nothing: each clause is a law.
 
-ghost use Rattle.name_store.specs.Laws.{OpeningsAreSound, RefusalsChangeNothing, StepsStaySound};
+ghost use Rattle.name_store.specs.Laws.{LinesNameEachOnce, OpeningsAreSound, RefusalsChangeNothing, StepsStaySound};
 
 /// The tree before the first operation is sound.
 pub fn openings_are_sound()
@@ -15,4 +15,9 @@ pub fn steps_stay_sound()
 /// After an error, `same`, or what was only asked, the tree is as it was.
 pub fn refusals_change_nothing()
     ensures { RefusalsChangeNothing }
+{}
+
+/// The lines of a sound tree are of its entries, each once.
+pub fn lines_name_each_once()
+    ensures { LinesNameEachOnce }
 {}

@@ -1,7 +1,9 @@
 //! The names of one backend of the file system: its directories and their entries.
 #![tactic(auto)]
 
-pub use laws::{openings_are_sound, refusals_change_nothing, steps_stay_sound};
+pub use laws::{
+    lines_name_each_once, openings_are_sound, refusals_change_nothing, steps_stay_sound,
+};
 pub use name_list::NameList;
 pub use name_tree::NameTree;
 pub use operation::{NameAnswer, NameOp, Node};
@@ -18,4 +20,6 @@ mod name_tree;
 mod operation;
 mod removing;
 mod steps;
+#[cfg(test)]
+mod tests;
 mod tree_line;

@@ -1,11 +1,11 @@
-ghost use Rattle.std.specs.Prelude.{◌≡◌, ◌+◌, ◌^◌, ◌<◌, ◌++◌, IfOk, OnOk};
-ghost use Rattle.name_store.specs.TreeLines.{lines_below, tree_lines};
+ghost use Rattle.std.specs.Prelude.{◌≡◌, ◌+◌, ◌^◌, ◌<◌, ◌∷◌, ◌++◌, [], IfOk, OnOk};
+ghost use Rattle.name_store.specs.TreeLines.{line_of, lines_below, tree_lines};
 
 use crate::directories::Directories;
 use crate::operation::Node;
 use crate::tree_line::{TreeLine, line_of};
 use std::alloc::{AllocError, Global};
-use wf_core::Text;
+use wf_core::{Name, Text};
 
 impl Directories {
     /// The lines of the tree, from the root downwards. A tree of 2^32 ids or more has none: it is want of memory.
@@ -39,11 +39,25 @@ impl Directories {
             return Ok(());
         };
         for (name, node) in directory.entries() {
-            lines.push(line_of(alloc, depth + 1, name, node)?)?;
+            push_line(alloc, depth + 1, name, node, lines)?;
             if let Node::Dir(child) = node {
                 self.add_lines(alloc, levels - 1, depth + 1, *child, lines)?;
             }
         }
         Ok(())
     }
+}
+
+/// Adds the line of an entry.
+fn push_line(
+    alloc: Global,
+    depth: u32,
+    name: &Name,
+    node: &Node,
+    lines: &mut Vec<TreeLine>,
+) -> Result<(), AllocError>
+    ensures { OnOk result (lines.new.items ≡ lines.old.items ++ line_of depth name.now node.now ∷ []) }
+{
+    lines.push(line_of(alloc, depth, name, node)?)?;
+    Ok(())
 }

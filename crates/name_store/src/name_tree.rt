@@ -4,6 +4,7 @@ ghost use Rattle.name_store.specs.Forms.{IsForm};
 ghost use Rattle.name_store.specs.Sound.{IsSound};
 ghost use Rattle.name_store.specs.Laws.{LeavesTree};
 ghost use Rattle.name_store.specs.TreeLines.{tree_lines};
+ghost use Rattle.name_store.specs.Visits.{LinesAreEntries};
 
 use crate::directories::Directories;
 use crate::operation::{NameAnswer, NameOp};
@@ -30,7 +31,8 @@ impl Model for NameTree {
 }
 
 impl NameTree {
-    /// The tree before the first operation: the root alone, in which each backend is mounted under its name.
+    /// The tree before the first operation: the root alone, in which each backend is mounted under its name. Of two
+    /// with one name the later is.
     pub fn new(alloc: Global, mounts: Vec<(Name, u32)>) -> Result<NameTree, AllocError>
         ensures { IfOk result (λ tree. tree ≡ opening mounts.items) }
     {
@@ -52,10 +54,10 @@ impl NameTree {
         self.directories.step(op)
     }
 
-    /// The lines of the tree. A tree of 2^32 ids or more has none: it is want of memory.
+    /// The lines of the tree, which name each entry once. A tree of 2^32 ids or more has none: it is want of memory.
     pub fn lines(&self, alloc: Global) -> Result<Vec<TreeLine>, AllocError>
         ensures lines { IfOk result (λ lines. lines.items ≡ tree_lines self.now) }
-        ensures sound { IsSound self.now }
+        ensures entries { LinesAreEntries self.now }
     {
         self.directories.lines(alloc)
     }

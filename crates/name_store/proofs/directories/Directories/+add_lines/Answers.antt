@@ -18,6 +18,7 @@ pub returns : goal.returns
 returns t c =
     let all : map deref_pair c.loop-name.yielded ≡ c.in-Some.directory.now.entries = search (rules, iter_end) in
     let below = entry_lines (lines_below (c.args.levels - 1) c.args.self.now (c.args.depth + 1)) (c.args.depth + 1) in
-    c.loop-name.invariant.2
-    ∙ ap (λ es. c.args.lines.now.items ++ flat_map below es) all
-    ∙ ap (λ ls. c.args.lines.now.items ++ ls) (one_level c.args.self.now c.args.levels c.args.depth c.args.id c.in-Some.directory.now c.if-levels-eq0.false (sym c.in-Some.ensures.directory))
+    let joined : flat_map below (map deref_pair c.loop-name.yielded) ≡ lines_below c.args.levels c.args.self.now c.args.depth c.args.id =
+    ap (λ es. flat_map below es) all
+    ∙ one_level c.args.self.now c.args.levels c.args.depth c.args.id c.in-Some.directory.now c.if-levels-eq0.false (sym c.in-Some.ensures.directory) in
+    c.loop-name.invariant.2 ∙ ap (λ ls. c.args.lines.now.items ++ ls) joined
