@@ -1,9 +1,9 @@
 -- The forms of answer that each operation has.
-use Rattle.std.specs.Prelude.{◌≡◌, ◌≤◌, length}
+use Rattle.std.specs.Prelude.{◌≡◌, ◌≤◌, ◌∷◌, length}
 use Rattle.wf_core.specs.declared.errno.Errno.{Errno}
 use Rattle.wf_core.specs.declared.errno.Errno.TheVariants.{Enoent, Eexist, Enotdir, Eisdir, Enotempty, Einval, Ebusy}
 use Rattle.name_store.specs.declared.operation.Node.{Node}
-use Rattle.name_store.specs.declared.operation.Node.TheVariants.{Dir}
+use Rattle.name_store.specs.declared.operation.Node.TheVariants.{Dir, Link}
 use Rattle.name_store.specs.declared.operation.NameOp.{NameOp}
 use Rattle.name_store.specs.declared.operation.NameOp.TheVariants.{Look, Parent, Makedir, Addlink, Addfile, Remfile, Remdir, Move, List as ListOp}
 use Rattle.name_store.specs.declared.operation.NameAnswer.{NameAnswer}
@@ -59,3 +59,23 @@ IsForm (Move from name to other slash) Moved = Unit {0}
 IsForm (Move from name to other slash) (Fault error) = MoveFault error
 IsForm (ListOp id start) (Names names) = length names ≤ names_max
 IsForm op answer = ⊥
+
+-- the operations that take no memory but for the text of their answer
+abbrev pub IsSpare : NameOp → Type 0
+IsSpare (Look id name) = Unit {0}
+IsSpare (Parent id) = Unit {0}
+IsSpare (Remfile id name slash) = Unit {0}
+IsSpare (Remdir id name) = Unit {0}
+IsSpare (ListOp id start) = Unit {0}
+IsSpare op = ⊥
+
+-- the node has no text
+abbrev pub IsPlain : Node → Type 0
+IsPlain (Link id text) = ⊥
+IsPlain node = Unit {0}
+
+-- the answer has no text: no link's and no name
+abbrev pub HasNoText : NameAnswer → Type 0
+HasNoText (Found node) = IsPlain node
+HasNoText (Names (name ∷ names)) = ⊥
+HasNoText answer = Unit {0}

@@ -1,4 +1,4 @@
-ghost use Rattle.std.specs.Prelude.{◌≡◌, ◌==◌, ℕ, length, IfOk, OnOk, OnErr, option_copied};
+ghost use Rattle.std.specs.Prelude.{◌≡◌, ◌==◌, ℕ, [], length, IfOk, IsOk, OnOk, OnErr, option_copied};
 ghost use Rattle.name_store.specs.NameTrees.{Listing, empty_in, entry_at, names_from, with_entry, with_parent, without_entry};
 
 use crate::name_list::NameList;
@@ -60,8 +60,12 @@ impl Directory {
 
     /// At most 32 names from a position on, in byte order.
     pub(crate) fn names(&self, alloc: Global, start: u32) -> Result<NameList, AllocError>
-        ensures { IfOk result (λ names. names ≡ names_from self.now start) }
+        ensures ok { IfOk result (λ names. names ≡ names_from self.now start) }
+        ensures spares { names_from self.now start ≡ [] → IsOk result }
     {
+        if start as usize >= self.entries.len() {
+            return Ok(NameList::new(alloc));
+        }
         let mut names = NameList::new(alloc);
         for name in self.entries.keys().skip(start as usize).take(NAMES_MAX) {
             names.push(name.clone()?)?;

@@ -1,6 +1,6 @@
-ghost use Rattle.std.specs.Prelude.{◌≡◌, IfOk, OnErr};
+ghost use Rattle.std.specs.Prelude.{◌≡◌, IfOk, IsOk, OnErr};
 ghost use Rattle.name_store.specs.NameTrees.{nstep, opening};
-ghost use Rattle.name_store.specs.Forms.{IsForm};
+ghost use Rattle.name_store.specs.Forms.{HasNoText, IsForm, IsSpare};
 ghost use Rattle.name_store.specs.Sound.{IsSound};
 ghost use Rattle.name_store.specs.Laws.{LeavesTree};
 ghost use Rattle.name_store.specs.TreeLines.{tree_lines};
@@ -50,6 +50,8 @@ impl NameTree {
         // After an error, `same`, or what was only asked, the tree is as it was.
         ensures unchanged { IfOk result (λ answer. LeavesTree answer → self.new ≡ self.old) }
         ensures sound { IsSound self.new }
+        // What only looks or removes takes no memory but for the text of its answer.
+        ensures spares { IsSpare op.now → HasNoText (nstep self.old op.now).answer → IsOk result }
     {
         self.directories.step(op)
     }

@@ -1,4 +1,8 @@
+ghost use Rattle.std.specs.Prelude.{◌≡◌, IfOk, IsOk};
+ghost use Rattle.name_store.specs.Forms.{IsPlain};
+
 use crate::name_list::NameList;
+use std::alloc::AllocError;
 use wf_core::{Errno, Name, PathText};
 
 /// What an entry of a directory is. Ids of directories and links are numbers of the tree that the entry
@@ -13,6 +17,21 @@ pub enum Node {
     File(u64),
     /// The root of the backend with that number.
     Mount(u32),
+}
+
+impl Node {
+    /// A copy. It takes memory for a link's text alone.
+    pub(crate) fn copy(&self) -> Result<Node, AllocError>
+        ensures ok { IfOk result (λ node. node ≡ self.now) }
+        ensures spares { IsPlain self.now → IsOk result }
+    {
+        match self {
+            Node::Dir(id) => Ok(Node::Dir(*id)),
+            Node::Link(id, text) => Ok(Node::Link(*id, text.clone()?)),
+            Node::File(file) => Ok(Node::File(*file)),
+            Node::Mount(backend) => Ok(Node::Mount(*backend)),
+        }
+    }
 }
 
 /// An operation on the names of one backend. A directory is named by its id; the root is 0.

@@ -1,6 +1,6 @@
-ghost use Rattle.std.specs.Prelude.{◌≡◌, IfOk, OnErr};
+ghost use Rattle.std.specs.Prelude.{◌≡◌, IfOk, IsOk, OnErr};
 ghost use Rattle.name_store.specs.NameTrees.{dir_at, listed, looked_up, nstep, parent_in};
-ghost use Rattle.name_store.specs.Forms.{IsForm};
+ghost use Rattle.name_store.specs.Forms.{HasNoText, IsForm, IsSpare};
 
 use crate::directories::Directories;
 use crate::operation::{NameAnswer, NameOp, Node};
@@ -13,6 +13,7 @@ impl Directories {
         ensures ok { IfOk result (λ answer. nstep self.old op.now ≡ record { tree = self.new; answer = answer }) }
         ensures form { IfOk result (IsForm op.now) }
         ensures err { OnErr result (self.new ≡ self.old) }
+        ensures spares { IsSpare op.now → HasNoText (nstep self.old op.now).answer → IsOk result }
     {
         match op {
             NameOp::Look(id, name) => self.look(*id, name),
@@ -30,13 +31,14 @@ impl Directories {
     }
 
     fn look(&self, id: u64, name: &Name) -> Result<NameAnswer, AllocError>
-        ensures { IfOk result (λ answer. answer ≡ looked_up (dir_at self.now id) name.now) }
+        ensures ok { IfOk result (λ answer. answer ≡ looked_up (dir_at self.now id) name.now) }
+        ensures spares { HasNoText (looked_up (dir_at self.now id) name.now) → IsOk result }
     {
         let Some(directory) = self.get(id) else {
             return Ok(NameAnswer::Gone);
         };
         match directory.entry(name) {
-            Some(node) => Ok(NameAnswer::Found(node.clone()?)),
+            Some(node) => Ok(NameAnswer::Found(node.copy()?)),
             None => Ok(NameAnswer::Absent),
         }
     }
@@ -51,7 +53,8 @@ impl Directories {
     }
 
     fn list(&self, id: u64, start: u32) -> Result<NameAnswer, AllocError>
-        ensures { IfOk result (λ answer. answer ≡ listed (dir_at self.now id) start) }
+        ensures ok { IfOk result (λ answer. answer ≡ listed (dir_at self.now id) start) }
+        ensures spares { HasNoText (listed (dir_at self.now id) start) → IsOk result }
     {
         match self.get(id) {
             Some(directory) => Ok(NameAnswer::Names(directory.names(self.alloc(), start)?)),

@@ -12,4 +12,4 @@ returns-in-Move-clause-form c =
 pub returns-in-List-clause-form : goal.returns-in-List-clause-form
 returns-in-List-clause-form c =
     subst (λ (op : NameOp). IfOk c.list.result (IsForm op)) (sym c.in-List.is)
-    (list_form c.args.self.now c.in-List.id c.in-List.start c.list.result c.list.ensures)
+    (list_form c.args.self.now c.in-List.id c.in-List.start c.list.result c.list.ensures.ok)
