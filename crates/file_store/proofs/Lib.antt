@@ -1,0 +1,2 @@
+pub mod NumberSetLemmas
+pub mod DescriptorMapLemmas

@@ -1,0 +1,149 @@
+-- File descriptors: what each number from 0 to 1,023 names, and what each operation answers and leaves.
+-- After POSIX.1-2017, XSH open() and dup() (the lowest number that is free), dup2() and close(), where a
+-- description ends with its last number. `EBUSY` for a number that an unfinished open() has reserved, and
+-- the steps into which those calls are cut, are this project's own.
+use Rattle.std.specs.Prelude.{◌≡◌, ◌⊎◌, ℕ, ◌==◌, Bool, true, false, ◌&&◌, List, length, replicate, Option, None, Some, unwrap_or, slice_get, slice_set, position, nat_lt, if◌then◌else◌}
+use Rattle.std.specs.List.{list_any}
+use Rattle.wf_core.specs.declared.errno.Errno.TheVariants.{Ebadf, Emfile, Ebusy}
+use Rattle.file_store.specs.declared.descriptor_operation.Slot.{Slot}
+use Rattle.file_store.specs.declared.descriptor_operation.Slot.TheVariants as slot
+use Rattle.file_store.specs.declared.descriptor_operation.FdOp.{FdOp}
+use Rattle.file_store.specs.declared.descriptor_operation.FdOp.TheVariants as op
+use Rattle.file_store.specs.declared.descriptor_operation.FdAnswer.{FdAnswer}
+use Rattle.file_store.specs.declared.descriptor_operation.FdAnswer.TheVariants as answer
+
+-- a map: what each number is, as the list from number 0 on
+abbrev pub Map : Type 0
+Map = List Slot
+
+-- the first map: 1,024 numbers, all free
+abbrev pub opening : Map
+opening = replicate 1024 slot.Free
+
+-- what a number is. One that the map does not have names nothing, as a free one
+abbrev pub slot_at : Map → ℕ → Slot
+slot_at map number = unwrap_or (slice_get map number) slot.Free
+
+abbrev pub is_free : Slot → Bool
+is_free slot.Free = true
+is_free slot.Reserved = false
+is_free (slot.File backend description) = false
+is_free (slot.Dir backend id) = false
+
+abbrev pub is_reserved : Slot → Bool
+is_reserved slot.Free = false
+is_reserved slot.Reserved = true
+is_reserved (slot.File backend description) = false
+is_reserved (slot.Dir backend id) = false
+
+-- it names a description or a directory
+abbrev pub is_named : Slot → Bool
+is_named slot.Free = false
+is_named slot.Reserved = false
+is_named (slot.File backend description) = true
+is_named (slot.Dir backend id) = true
+
+-- it names that description
+abbrev pub is_number_of : ℕ → ℕ → Slot → Bool
+is_number_of backend description slot.Free = false
+is_number_of backend description slot.Reserved = false
+is_number_of backend description (slot.File other_backend other) = other_backend == backend && other == description
+is_number_of backend description (slot.Dir other_backend id) = false
+
+-- the lowest free number, where there is one
+abbrev pub lowest_free : Map → Option ℕ
+lowest_free map = position is_free map
+
+-- some number names that description
+abbrev pub is_open : ℕ → ℕ → Map → Bool
+is_open backend description map = list_any (is_number_of backend description) map
+
+-- what an operation answers, and the map that it leaves
+pub record Outcome : Type 0 where
+  pub map : Map
+  pub answer : FdAnswer
+
+abbrev pub stays : Map → FdAnswer → Outcome
+stays map answer = record { map = map; answer = answer }
+
+abbrev pub changed : Map → ℕ → Slot → FdAnswer → Outcome
+changed map number new answer = record { map = slice_set map number new; answer = answer }
+
+-- the lowest free number, if there is one, becomes what is asked
+abbrev pub placed : Map → Slot → Option ℕ → Outcome
+placed map new None = stays map (answer.Fault Emfile)
+placed map new (Some number) = changed map number new (answer.Fd number)
+
+-- only a reserved number changes
+abbrev pub settled : Map → ℕ → Slot → Slot → Outcome
+settled map number new old = if is_reserved old then changed map number new answer.Done else stays map answer.Done
+
+abbrev pub looked_up : Slot → FdAnswer
+looked_up slot.Free = answer.Fault Ebadf
+looked_up slot.Reserved = answer.Fault Ebadf
+looked_up (slot.File backend description) = answer.File backend description
+looked_up (slot.Dir backend id) = answer.Dir backend id
+
+abbrev pub copied : Map → Slot → Outcome
+copied map named = if is_named named then placed map named (lowest_free map) else stays map (answer.Fault Ebadf)
+
+-- a number that named a description names something else, and the answer tells whether it was the last one
+abbrev pub copied_last : Map → ℕ → ℕ → ℕ → Outcome
+copied_last new number backend description = record { map = new; answer = if is_open backend description new then answer.Fd number else answer.FdLast number backend description }
+
+abbrev pub copied_over : Map → ℕ → Slot → Slot → Outcome
+copied_over map number new slot.Free = changed map number new (answer.Fd number)
+copied_over map number new slot.Reserved = stays map (answer.Fault Ebusy)
+copied_over map number new (slot.File backend description) = copied_last (slice_set map number new) number backend description
+copied_over map number new (slot.Dir backend id) = changed map number new (answer.Fd number)
+
+abbrev pub copied_to : Map → Slot → ℕ → Outcome
+copied_to map named number = if is_named named && nat_lt number (length map) then copied_over map number named (slot_at map number) else stays map (answer.Fault Ebadf)
+
+-- a number that named a description is free, and the answer tells whether it was the last one
+abbrev pub taken_last : Map → ℕ → ℕ → Outcome
+taken_last new backend description = record { map = new; answer = if is_open backend description new then answer.Done else answer.Last backend description }
+
+abbrev pub taken : Map → ℕ → Slot → Outcome
+taken map number slot.Free = stays map (answer.Fault Ebadf)
+taken map number slot.Reserved = stays map (answer.Fault Ebadf)
+taken map number (slot.File backend description) = taken_last (slice_set map number slot.Free) backend description
+taken map number (slot.Dir backend id) = changed map number slot.Free answer.Done
+
+-- each operation on a map
+abbrev pub dstep : Map → FdOp → Outcome
+dstep map op.Reserve = placed map slot.Reserved (lowest_free map)
+dstep map (op.FillFile number backend description) = settled map number (slot.File backend description) (slot_at map number)
+dstep map (op.FillDir number backend id) = settled map number (slot.Dir backend id) (slot_at map number)
+dstep map (op.Drop number) = settled map number slot.Free (slot_at map number)
+dstep map (op.Look number) = stays map (looked_up (slot_at map number))
+dstep map (op.Copy number) = copied map (slot_at map number)
+dstep map (op.Copyto number target) = copied_to map (slot_at map number) target
+dstep map (op.Take number) = taken map number (slot_at map number)
+
+-- the forms of answer that each operation has
+abbrev pub IsForm : FdOp → FdAnswer → Type 0
+IsForm op.Reserve (answer.Fd number) = Unit {0}
+IsForm op.Reserve (answer.Fault error) = error ≡ Emfile
+IsForm op.Reserve _ = ⊥
+IsForm (op.FillFile number backend description) answer.Done = Unit {0}
+IsForm (op.FillFile number backend description) _ = ⊥
+IsForm (op.FillDir number backend id) answer.Done = Unit {0}
+IsForm (op.FillDir number backend id) _ = ⊥
+IsForm (op.Drop number) answer.Done = Unit {0}
+IsForm (op.Drop number) _ = ⊥
+IsForm (op.Look number) (answer.File backend description) = Unit {0}
+IsForm (op.Look number) (answer.Dir backend id) = Unit {0}
+IsForm (op.Look number) (answer.Fault error) = error ≡ Ebadf
+IsForm (op.Look number) _ = ⊥
+IsForm (op.Copy number) (answer.Fd copy) = Unit {0}
+IsForm (op.Copy number) (answer.Fault error) = (error ≡ Ebadf) ⊎ (error ≡ Emfile)
+IsForm (op.Copy number) _ = ⊥
+IsForm (op.Copyto number target) (answer.Fd copy) = Unit {0}
+IsForm (op.Copyto number target) (answer.FdLast copy backend description) = Unit {0}
+IsForm (op.Copyto number target) (answer.Fault error) = (error ≡ Ebadf) ⊎ (error ≡ Ebusy)
+IsForm (op.Copyto number target) _ = ⊥
+IsForm (op.Take number) answer.Done = Unit {0}
+IsForm (op.Take number) (answer.Last backend description) = Unit {0}
+IsForm (op.Take number) (answer.Fault error) = error ≡ Ebadf
+IsForm (op.Take number) _ = ⊥

@@ -1,0 +1,2 @@
+pub mod DescriptorMap
+pub mod NumberSets

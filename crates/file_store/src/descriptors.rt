@@ -1,0 +1,202 @@
+ghost use Rattle.std.specs.Prelude.{◌≡◌, ◌<◌, false, length, IfOk, IfSome, slice_set};
+ghost use Rattle.file_store.specs.DescriptorMap.{opening, slot_at, is_free, is_open, lowest_free, placed, settled, looked_up, copied, copied_over, copied_to, taken, dstep, IsForm};
+
+use crate::descriptor_operation::{FdAnswer, FdOp, Slot};
+use crate::number_set::NumberSet;
+use std::alloc::{AllocError, Global};
+use std::marker::Model;
+use wf_core::Errno;
+
+/// The descriptors, seen as what each number from 0 to 1,023 is.
+#[derive(Drop)]
+pub struct Descriptors {
+    slots: Vec<Slot>,
+    // The free numbers, so that the lowest is found without a look at each slot.
+    free: NumberSet,
+}
+
+impl Model for Descriptors {
+    ghost use Rattle.std.specs.Prelude.{◌≡◌, map, length};
+    ghost use Rattle.file_store.specs.DescriptorMap.{Map, is_free};
+
+    ghost Value = { Map };
+
+    ghost view = { λ d. d.slots.items };
+
+    ghost invariant = { λ d. (length d.slots.items ≡ 1024) × (d.free ≡ map is_free d.slots.items) };
+}
+
+impl Descriptors {
+    /// 1,024 free numbers. It takes all the memory that they will ever need.
+    pub fn new(alloc: Global) -> Result<Descriptors, AllocError>
+        ensures { IfOk result (λ map. map ≡ opening) }
+    {
+        Ok(Descriptors {
+            slots: vec![in alloc; Slot::Free; 1024]?,
+            free: NumberSet::full(),
+        })
+    }
+
+    /// Takes one step, which is the definition's. It takes no memory.
+    #[tactic(auto, using(crate::proofs::DescriptorMapLemmas::is_form))]
+    pub fn apply(&mut self, op: &FdOp) -> FdAnswer
+        ensures step { dstep self.old op.now ≡ record { map = self.new; answer = result } }
+        ensures form { IsForm op.now result }
+        ensures numbers { length self.new ≡ 1024 }
+    {
+        match *op {
+            FdOp::Reserve => self.place(Slot::Reserved),
+            FdOp::FillFile(number, backend, description) => {
+                self.settle(number, Slot::File(backend, description))
+            }
+            FdOp::FillDir(number, backend, id) => self.settle(number, Slot::Dir(backend, id)),
+            FdOp::Drop(number) => self.settle(number, Slot::Free),
+            FdOp::Look(number) => self.look(number),
+            FdOp::Copy(number) => self.copy(number),
+            FdOp::Copyto(number, target) => self.copy_to(number, target),
+            FdOp::Take(number) => self.take(number),
+        }
+    }
+
+    fn slot(&self, number: u32) -> Slot
+        ensures value { result ≡ slot_at self.now number }
+        ensures within { is_free result ≡ false → number < length self.now }
+        ensures numbers { length self.now ≡ 1024 }
+    {
+        self.slots
+            .get(number as usize)
+            .copied()
+            .unwrap_or(Slot::Free)
+    }
+
+    fn lowest_free(&self) -> Option<u32>
+        ensures value { result ≡ lowest_free self.now }
+        ensures within { IfSome result (λ number. number < length self.now) }
+        ensures numbers { length self.now ≡ 1024 }
+    {
+        self.free.first()
+    }
+
+    // Whether some number names that description.
+    fn is_open(&self, backend: u32, description: u64) -> bool
+        ensures { result ≡ is_open backend description self.now }
+    {
+        self.slots
+            .iter()
+            .any(|slot| slot.is_number_of(backend, description))
+    }
+
+    fn set(&mut self, number: u32, slot: Slot)
+        requires { number < length self.old }
+        ensures value { self.new ≡ slice_set self.old number slot }
+        ensures numbers { length self.new ≡ 1024 }
+    {
+        let number = number as usize;
+        self.slots[number] = slot;
+        if slot.is_free() {
+            self.free.insert(number);
+        } else {
+            self.free.remove(number);
+        }
+    }
+
+    // Has the lowest free number be what is asked.
+    fn place(&mut self, slot: Slot) -> FdAnswer
+        ensures step { placed self.old slot (lowest_free self.old) ≡ record { map = self.new; answer = result } }
+        ensures numbers { length self.new ≡ 1024 }
+    {
+        let Some(number) = self.lowest_free() else {
+            return FdAnswer::Fault(Errno::Emfile);
+        };
+        self.set(number, slot);
+        FdAnswer::Fd(number)
+    }
+
+    // Has a reserved number be what is asked. Another stays as it is.
+    fn settle(&mut self, number: u32, slot: Slot) -> FdAnswer
+        ensures step { settled self.old number slot (slot_at self.old number) ≡ record { map = self.new; answer = result } }
+        ensures numbers { length self.new ≡ 1024 }
+    {
+        let old = self.slot(number);
+        if !old.is_reserved() {
+            return FdAnswer::Done;
+        }
+        self.set(number, slot);
+        FdAnswer::Done
+    }
+
+    fn look(&self, number: u32) -> FdAnswer
+        ensures step { result ≡ looked_up (slot_at self.now number) }
+        ensures numbers { length self.now ≡ 1024 }
+    {
+        match self.slot(number) {
+            Slot::File(backend, description) => FdAnswer::File(backend, description),
+            Slot::Dir(backend, id) => FdAnswer::Dir(backend, id),
+            Slot::Free | Slot::Reserved => FdAnswer::Fault(Errno::Ebadf),
+        }
+    }
+
+    fn copy(&mut self, number: u32) -> FdAnswer
+        ensures step { copied self.old (slot_at self.old number) ≡ record { map = self.new; answer = result } }
+        ensures numbers { length self.new ≡ 1024 }
+    {
+        let slot = self.slot(number);
+        if !slot.is_named() {
+            return FdAnswer::Fault(Errno::Ebadf);
+        }
+        self.place(slot)
+    }
+
+    fn copy_to(&mut self, number: u32, target: u32) -> FdAnswer
+        ensures step { copied_to self.old (slot_at self.old number) target ≡ record { map = self.new; answer = result } }
+        ensures numbers { length self.new ≡ 1024 }
+    {
+        let slot = self.slot(number);
+        if !slot.is_named() || target as usize >= self.slots.len() {
+            return FdAnswer::Fault(Errno::Ebadf);
+        }
+        self.copy_over(target, slot)
+    }
+
+    // Has a number name what is asked, whatever it named before.
+    fn copy_over(&mut self, number: u32, slot: Slot) -> FdAnswer
+        requires { number < length self.old }
+        ensures step { copied_over self.old number slot (slot_at self.old number) ≡ record { map = self.new; answer = result } }
+        ensures numbers { length self.new ≡ 1024 }
+    {
+        match self.slot(number) {
+            Slot::Reserved => FdAnswer::Fault(Errno::Ebusy),
+            Slot::File(backend, description) => {
+                self.set(number, slot);
+                if self.is_open(backend, description) {
+                    return FdAnswer::Fd(number);
+                }
+                FdAnswer::FdLast(number, backend, description)
+            }
+            Slot::Free | Slot::Dir(_, _) => {
+                self.set(number, slot);
+                FdAnswer::Fd(number)
+            }
+        }
+    }
+
+    fn take(&mut self, number: u32) -> FdAnswer
+        ensures step { taken self.old number (slot_at self.old number) ≡ record { map = self.new; answer = result } }
+        ensures numbers { length self.new ≡ 1024 }
+    {
+        match self.slot(number) {
+            Slot::Free | Slot::Reserved => FdAnswer::Fault(Errno::Ebadf),
+            Slot::File(backend, description) => {
+                self.set(number, Slot::Free);
+                if self.is_open(backend, description) {
+                    return FdAnswer::Done;
+                }
+                FdAnswer::Last(backend, description)
+            }
+            Slot::Dir(_, _) => {
+                self.set(number, Slot::Free);
+                FdAnswer::Done
+            }
+        }
+    }
+}
