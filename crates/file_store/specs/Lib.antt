@@ -1,2 +1,4 @@
 pub mod DescriptorMap
 pub mod NumberSets
+pub mod FileBytes
+pub mod Pages

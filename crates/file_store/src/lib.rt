@@ -4,6 +4,9 @@
 pub use descriptor_operation::{FdAnswer, FdOp, Slot};
 pub use descriptors::Descriptors;
 
+mod contents;
 mod descriptor_operation;
 mod descriptors;
 mod number_set;
+mod page;
+mod pages;

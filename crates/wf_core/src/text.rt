@@ -16,6 +16,13 @@ impl Model for Text {
 }
 
 impl Text {
+    /// The bytes themselves, without a copy.
+    pub fn new(bytes: Vec<u8>) -> Text
+        ensures { result ≡ bytes.items }
+    {
+        Text { bytes }
+    }
+
     /// A copy of the bytes.
     pub fn read(alloc: Global, bytes: &[u8]) -> Result<Text, AllocError>
         ensures { IfOk result (λ text. text ≡ bytes.now) }
