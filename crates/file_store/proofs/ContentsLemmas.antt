@@ -101,26 +101,26 @@ module _ (size : ℕ) (pages : PageEntries) (whole : AreWhole pages) (within : A
   range_has a zero q = grind (arith, nat_tests)
   range_has a (suc n) q = let rest = range_has (a + 1) n q in grind (arith, nat_tests, rest)
 
-  same_members : (q : ℕ) → is_member (eq_by_cmp nat_cmp) (keys_of pages) q ≡ is_member (eq_by_cmp nat_cmp) (filter (is_page_kept (flat size pages)) (range_with_len 0 (length (flat size pages) / 4096 + 1))) q
+  same_members : (q : ℕ) → is_member (eq_by_cmp nat_cmp) (keys_of pages) q ≡ is_member (eq_by_cmp nat_cmp) (filter (is_page_kept (flat size pages)) (range_with_len 0 ((length (flat size pages) + 4095) / 4096))) q
   same_members q =
       let test = is_page_kept (flat size pages) in
-      let range = range_with_len 0 (length (flat size pages) / 4096 + 1) in
+      let range = range_with_len 0 ((length (flat size pages) + 4095) / 4096) in
       sym (is_some-lookup (eq_by_cmp nat_cmp q) pages)
       ∙ below (is_some (kept_page pages q)) refl
-      ∙ ap₂ (λ (a b : Bool). a && b) (sym (range_has 0 (length (flat size pages) / 4096 + 1) q)) (sym (kept_is q))
+      ∙ ap₂ (λ (a b : Bool). a && b) (sym (range_has 0 ((length (flat size pages) + 4095) / 4096) q)) (sym (kept_is q))
       ∙ sym (is_member-filter (eq_by_cmp_equiv nat_cmp_total) test q (λ x e. ap test (tells_apart exact_unsigned q x e)) range)
     where
-      below : (b : Bool) → is_some (kept_page pages q) ≡ b → b ≡ ((leb 0 q && ltb q (0 + (length (flat size pages) / 4096 + 1))) && b)
+      below : (b : Bool) → is_some (kept_page pages q) ≡ b → b ≡ ((leb 0 q && ltb q (0 + ((length (flat size pages) + 4095) / 4096))) && b)
       below true e =
           let has = kept_has q e in
-          let low : q < 0 + (length (flat size pages) / 4096 + 1) = omega (arith, has.2, length-flat size pages) in
+          let low : q < 0 + ((length (flat size pages) + 4095) / 4096) = omega (arith, has.2, length-flat size pages) in
           grind (arith, nat_tests)
       below false e = grind (arith, nat_tests)
 
   pub count_is : IsStrictlySortedBy nat_cmp (keys_of pages) → length pages ≡ page_count (flat size pages)
   count_is ordered =
       let test = is_page_kept (flat size pages) in
-      let count : ℕ = length (flat size pages) / 4096 + 1 in
+      let count : ℕ = (length (flat size pages) + 4095) / 4096 in
       let range = range_with_len 0 count in
       let laws = eq_by_cmp_equiv nat_cmp_total in
       let rises = sorted_from_strictly_increasing range (λ k low.

@@ -5,3 +5,5 @@ pub mod WriteLemmas
 pub mod CutLemmas
 pub mod FileBytesLemmas
 pub mod ContentsLemmas
+pub mod TableLemmas
+pub mod SumLemmas

@@ -24,4 +24,4 @@ is_page_kept bytes page = not (all_zero (part bytes (page * 4096) 4096))
 
 -- how many pages have a byte other than 0
 abbrev pub page_count : List ℕ → ℕ
-page_count bytes = count_by (is_page_kept bytes) (range_with_len 0 (length bytes / 4096 + 1))
+page_count bytes = count_by (is_page_kept bytes) (range_with_len 0 ((length bytes + 4095) / 4096))

@@ -53,7 +53,8 @@ impl Contents {
     /// The bytes from an offset on, at most so many. It takes the time of the bytes, and for each page of
     /// them that of finding it.
     pub(crate) fn read(&self, alloc: Global, offset: u64, count: usize) -> Result<Text, AllocError>
-        ensures { IfOk result (λ text. text ≡ part self.now offset count) }
+        ensures value { IfOk result (λ text. text ≡ part self.now offset count) }
+        ensures fits { IfOk result (λ text. offset + length text < 2 ^ 64) }
     {
         let length = (count as u64).min(self.size.saturating_sub(offset)) as usize;
         let mut bytes = Vec::with_capacity(alloc, length)?;

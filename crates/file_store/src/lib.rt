@@ -3,10 +3,17 @@
 
 pub use descriptor_operation::{FdAnswer, FdOp, Slot};
 pub use descriptors::Descriptors;
+pub use file_operation::{Access, FileAnswer, FileOp, Mode, Whence};
+pub use files::Files;
 
 mod contents;
+mod description_table;
 mod descriptor_operation;
 mod descriptors;
+mod file;
+mod file_operation;
+mod file_table;
+mod files;
 mod number_set;
 mod page;
 mod pages;

@@ -3,8 +3,8 @@ use Rattle.file_store.specs.FileBytes.{part}
 use Rattle.file_store.proofs.ContentsLemmas.{read_is}
 use Rattle.file_store.proofs.contents.Contents.read.Goals as goal
 
-pub returns : goal.returns
-returns c =
+pub returns-clause-value : goal.returns-clause-value
+returns-clause-value c =
     let old = c.self.inside in
     let bytes = c.loop-self.bytes in
     let len : vec_len bytes ≡ min c.args.count (old.size - c.args.offset) = omega arith in

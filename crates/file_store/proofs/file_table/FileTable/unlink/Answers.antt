@@ -1,0 +1,16 @@
+use Rattle.std.proofs.Common.{◌≡◌, Some, nat_cmp, false, rules, arith}
+use Rattle.std.specs.BTreeMap.{is_at}
+use Rattle.std.specs.Map.{set_value}
+use Rattle.file_store.specs.declared.file.File.{File}
+use Rattle.file_store.specs.Tables.{Table, row_at}
+use Rattle.file_store.proofs.SumLemmas.{summed_other, size_within}
+use Rattle.file_store.proofs.file_table.FileTable.unlink.Goals as goal
+
+pub invariant_of-self-2 : goal.invariant_of-self-2
+invariant_of-self-2 c =
+    let old : Table File = record { entries = c.self.inside.files.entries; next = c.self.inside.next } in
+    let was = c.in-Some.file.now in
+    let file : File = record { bytes = was.bytes; linked = false } in
+    let there : row_at old c.args.id ≡ Some was = search rules in
+    let entries : (c.get_mut.follows.lender file).entries ≡ set_value (is_at (nat_cmp c.args.id)) old.entries file = search rules in
+    rw entries (summed_other old c.self.inside.total c.args.id c.self.inside.total was file c.self.invariant there (omega (arith, size_within old c.args.id was there, c.self.invariant.sum_is)) c.self.invariant.within)

@@ -1,0 +1,92 @@
+ghost use Rattle.std.specs.Prelude.{◌≡◌, ℕ, ◌<◌, IsSome, IfSome, IfOk, OnErr};
+ghost use Rattle.file_store.specs.FileGroups.{is_open};
+ghost use Rattle.file_store.specs.Tables.{Table, IsFresh, IsAdded, empty_from, row_at, added, with_other, without};
+ghost use Rattle.file_store.specs.declared.file.Description.{Description};
+
+use crate::file::Description;
+use std::alloc::{AllocError, Global};
+use std::collections::BTreeMap;
+use std::marker::Model;
+
+/// The open file descriptions of one group, by their ids.
+#[derive(Drop)]
+pub(crate) struct DescriptionTable {
+    descriptions: BTreeMap<u64, Description>,
+    next: u64,
+}
+
+impl Model for DescriptionTable {
+    ghost use Rattle.file_store.specs.Tables.{Table, IsFresh};
+    ghost use Rattle.file_store.specs.declared.file.Description.{Description};
+
+    ghost Value = { Table Description };
+
+    ghost view = { λ t. record { entries = t.descriptions.entries; next = t.next } };
+
+    ghost invariant = { λ t. IsFresh {X = Description} (record { entries = t.descriptions.entries; next = t.next }) };
+}
+
+impl DescriptionTable {
+    pub(crate) fn new(alloc: Global, first: u64) -> DescriptionTable
+        ensures { result ≡ empty_from first }
+    {
+        DescriptionTable {
+            descriptions: BTreeMap::new(alloc),
+            next: first,
+        }
+    }
+
+    pub(crate) fn get(&self, id: u64) -> Option<Description>
+        ensures { result ≡ row_at self.now id }
+    {
+        self.descriptions.get(&id).copied()
+    }
+
+    /// Whether some description is of that file.
+    pub(crate) fn is_open(&self, file: u64) -> bool
+        ensures { result ≡ is_open self.now file }
+    {
+        self.descriptions
+            .values()
+            .any(|description| description.file == file)
+    }
+
+    /// Adds a description and tells its id.
+    pub(crate) fn add(&mut self, description: Description) -> Result<u64, AllocError>
+        ensures ok { IfOk result (λ id. (id ≡ self.old.next) × (self.new ≡ added self.old description)) }
+        ensures err { OnErr result (self.new ≡ self.old) }
+        ensures fresh { IsFresh self.old }
+    {
+        let id = self.next;
+        let Some(next) = id.checked_add(4) else {
+            return Err(AllocError);
+        };
+        self.descriptions.insert(id, description)?;
+        self.next = next;
+        Ok(id)
+    }
+
+    /// Takes back the description that was added last.
+    pub(crate) fn undo_add(&mut self, id: u64)
+        requires { IsAdded self.old id }
+        ensures { (before : Table Description) (description : Description) → IsFresh before → id ≡ before.next → self.old ≡ added before description → self.new ≡ before }
+    {
+        self.descriptions.remove(&id);
+        self.next = id;
+    }
+
+    /// Moves the offset of a description.
+    pub(crate) fn move_to(&mut self, id: u64, offset: u64)
+        ensures { IfSome (row_at self.old id) (λ description. self.new ≡ with_other self.old id (record description { offset = offset })) }
+    {
+        if let Some(description) = self.descriptions.get_mut(&id) {
+            description.offset = offset;
+        }
+    }
+
+    pub(crate) fn remove(&mut self, id: u64)
+        ensures { self.new ≡ without self.old id }
+    {
+        self.descriptions.remove(&id);
+    }
+}

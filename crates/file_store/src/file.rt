@@ -1,0 +1,17 @@
+use crate::contents::Contents;
+use crate::file_operation::Mode;
+
+/// A file: its bytes, and whether a directory has an entry of it.
+#[derive(Drop)]
+pub(crate) struct File {
+    pub(crate) bytes: Contents,
+    pub(crate) linked: bool,
+}
+
+/// An open file description: the id of its file, how that is open, and the offset in bytes.
+#[derive(Clone, Copy, Drop)]
+pub(crate) struct Description {
+    pub(crate) file: u64,
+    pub(crate) mode: Mode,
+    pub(crate) offset: u64,
+}

@@ -1,0 +1,101 @@
+ghost use Rattle.std.specs.Prelude.{◌≡◌};
+ghost use Rattle.file_store.specs.FileGroups.{can_read, can_write};
+
+use wf_core::{Errno, Text};
+
+/// What a description may do with its file, as `O_RDONLY`, `O_WRONLY` and `O_RDWR` say.
+#[derive(Clone, Copy, Debug, PartialEq, Eq)]
+pub enum Access {
+    Read,
+    Write,
+    ReadWrite,
+}
+
+impl Access {
+    pub(crate) fn can_read(self) -> bool
+        ensures { result ≡ can_read self }
+    {
+        match self {
+            Access::Read | Access::ReadWrite => true,
+            Access::Write => false,
+        }
+    }
+
+    pub(crate) fn can_write(self) -> bool
+        ensures { result ≡ can_write self }
+    {
+        match self {
+            Access::Write | Access::ReadWrite => true,
+            Access::Read => false,
+        }
+    }
+}
+
+/// How a file is open. With `append`, as `O_APPEND` says, `Write` writes at the file's end.
+#[derive(Clone, Copy, Debug, PartialEq, Eq)]
+pub struct Mode {
+    pub access: Access,
+    pub append: bool,
+}
+
+/// What the offset of a seek counts from: the start, the description's offset, or the file's end.
+#[derive(Clone, Copy, Debug, PartialEq, Eq)]
+pub enum Whence {
+    Set,
+    Cur,
+    End,
+}
+
+/// An operation on the files of one group. Files and descriptions are named by their ids.
+#[derive(Debug, Drop)]
+pub enum FileOp {
+    /// Makes an empty linked file, and a description of it at offset 0.
+    Make(Mode),
+    /// Makes a description of a linked file, which is first emptied where the flag is set.
+    Attach(u64, Mode, bool),
+    /// How many bytes does that linked file have?
+    Sizeof(u64),
+    /// That file was removed from its directory. Without a description it is freed.
+    Unlinked(u64),
+    /// Ends that description, and its file where that is not linked and has no other.
+    Release(u64),
+    /// Reads at most so many bytes, and 4,096, from the description's offset, which moves on.
+    Read(u64, u32),
+    /// Reads at most so many bytes, and 4,096, from that offset.
+    Readat(u64, u32, i64),
+    /// Writes bytes at the description's offset, or at the file's end under `append`.
+    Write(u64, Text),
+    /// Writes bytes at that offset.
+    Writeat(u64, Text, i64),
+    /// Moves the description's offset, to at most 1,099,511,627,776.
+    Seek(u64, i64, Whence),
+    /// Has the description's file be of that size.
+    Cut(u64, i64),
+    /// How many bytes does the description's file have?
+    Size(u64),
+}
+
+/// What an operation answers.
+#[derive(Debug, Drop)]
+pub enum FileAnswer {
+    /// The new file and its description.
+    File(u64, u64),
+    /// The file is not linked, or there is no such file.
+    Gone,
+    /// The new description.
+    Desc(u64),
+    /// The file's size in bytes.
+    Size(u64),
+    Done,
+    /// The bytes that were read.
+    Bytes(Text),
+    /// How many bytes were written, which is all.
+    Count(u64),
+    /// The new offset.
+    At(u64),
+    /// `EBADF` where there is no such description or its access does not allow the operation, `EINVAL`
+    /// for a negative offset or size and for a cut without write access, `EFBIG` where a file would end
+    /// behind 16,777,216 bytes, `ENOSPC` where the group would have more than 67,108,864, `EOVERFLOW`
+    /// where an offset would be too large.
+    Fault(Errno),
+}

@@ -1,0 +1,208 @@
+ghost use Rattle.std.specs.Prelude.{◌≡◌, ℕ, ◌<◌, ◌≤◌, [], false, None, Some, length, IsSome, IfSome, IfOk, OnOk, OnErr};
+ghost use Rattle.std.specs.Option.{option_copied};
+ghost use Rattle.file_store.specs.FileGroups.{empty_file, refusal, put, put_refusal, cut_file, cut_refusal, total_pages};
+ghost use Rattle.file_store.specs.FileTables.{put_unless, cut_unless};
+ghost use Rattle.file_store.specs.declared.file.File.{File};
+ghost use Rattle.file_store.specs.Tables.{empty_from, row_at, added, with_other, without};
+
+use crate::contents::Contents;
+use crate::file::File;
+use std::alloc::{AllocError, Global};
+use std::collections::BTreeMap;
+use std::marker::Model;
+use wf_core::Errno;
+
+/// The most bytes of a file.
+const FILE_LIMIT: u64 = 16_777_216;
+
+/// The most bytes of all files of a group.
+const GROUP_LIMIT: u64 = 67_108_864;
+
+/// The files of one group, by their ids.
+#[derive(Drop)]
+pub(crate) struct FileTable {
+    alloc: Global,
+    files: BTreeMap<u64, File>,
+    next: u64,
+    // How many bytes all files have together.
+    total: u64,
+}
+
+impl Model for FileTable {
+    ghost use Rattle.file_store.specs.FileTables.{IsSummed};
+    ghost use Rattle.file_store.specs.Tables.{Table};
+    ghost use Rattle.file_store.specs.declared.file.File.{File};
+
+    ghost Value = { Table File };
+
+    ghost view = { λ t. record { entries = t.files.entries; next = t.next } };
+
+    ghost invariant = { λ t. IsSummed (record { entries = t.files.entries; next = t.next }) t.total };
+}
+
+impl FileTable {
+    pub(crate) fn new(alloc: Global, first: u64) -> FileTable
+        ensures { result ≡ empty_from first }
+    {
+        FileTable {
+            alloc,
+            files: BTreeMap::new(alloc),
+            next: first,
+            total: 0,
+        }
+    }
+
+    pub(crate) fn get(&self, id: u64) -> Option<&File>
+        ensures { option_copied result ≡ row_at self.now id }
+    {
+        self.files.get(&id)
+    }
+
+    /// The id of the next file.
+    pub(crate) fn next(&self) -> u64
+        ensures { result ≡ self.now.next }
+    {
+        self.next
+    }
+
+    /// Adds an empty file that is linked.
+    pub(crate) fn add(&mut self) -> Result<(), AllocError>
+        ensures ok { IfOk result (λ _. self.new ≡ added self.old empty_file) }
+        ensures err { OnErr result (self.new ≡ self.old) }
+    {
+        let Some(next) = self.next.checked_add(4) else {
+            return Err(AllocError);
+        };
+        let file = File {
+            bytes: Contents::new(self.alloc),
+            linked: true,
+        };
+        self.files.insert(self.next, file)?;
+        self.next = next;
+        Ok(())
+    }
+
+    /// Writes bytes into a file that is there, unless its end or the sizes of all would be too great.
+    pub(crate) fn put(
+        &mut self,
+        id: u64,
+        at: u64,
+        bytes: &[u8],
+    ) -> Result<Option<Errno>, AllocError>
+        ensures ok { IfOk result (λ refused. IfSome (row_at self.old id) (λ file.
+            (refused ≡ put_refusal self.old id file at bytes.now) × (self.new ≡ put_unless self.old id file at bytes.now refused))) }
+        ensures err { OnErr result (self.new ≡ self.old) }
+    {
+        let Some(file) = self.get(id) else {
+            return Ok(None);
+        };
+        let Some(end) = at.checked_add(bytes.len() as u64) else {
+            return Ok(Some(Errno::Efbig));
+        };
+        let size = file.bytes.size().max(end);
+        if let Some(error) = self.refusal(id, size, end) {
+            return Ok(Some(error));
+        }
+        self.write(id, at, bytes)?;
+        Ok(None)
+    }
+
+    /// Has a file that is there be of that size, unless that or the sizes of all would be too great.
+    pub(crate) fn cut(&mut self, id: u64, size: u64) -> Option<Errno>
+        ensures { IfSome (row_at self.old id) (λ file.
+            (result ≡ cut_refusal self.old id file size) × (self.new ≡ cut_unless self.old id file size result)) }
+    {
+        if let Some(error) = self.refusal(id, size, size) {
+            return Some(error);
+        }
+        self.resize(id, size);
+        None
+    }
+
+    // Why a file may not come to have that size and that end.
+    fn refusal(&self, id: u64, size: u64, end: u64) -> Option<Errno>
+        ensures { IfSome (row_at self.now id) (λ file. (new : File) → length new.bytes ≡ size
+            → result ≡ refusal end (with_other self.now id new)) }
+    {
+        let Some(file) = self.files.get(&id) else {
+            return None;
+        };
+        let others = self.total - file.bytes.size();
+        if end > FILE_LIMIT {
+            return Some(Errno::Efbig);
+        }
+        if others.saturating_add(size) > GROUP_LIMIT {
+            return Some(Errno::Enospc);
+        }
+        None
+    }
+
+    // Writes bytes into a file, which is not refused.
+    fn write(&mut self, id: u64, at: u64, bytes: &[u8]) -> Result<(), AllocError>
+        requires { (file : File) → row_at self.old id ≡ Some file → put_refusal self.old id file at bytes.now ≡ None }
+        ensures ok { OnOk result (IfSome (row_at self.old id) (λ file. self.new ≡ put self.old id file at bytes.now)) }
+        ensures err { OnErr result (self.new ≡ self.old) }
+    {
+        let Some(file) = self.files.get_mut(&id) else {
+            return Ok(());
+        };
+        let size = file.bytes.size();
+        file.bytes.write(self.alloc, at, bytes)?;
+        self.total = self.total - size + file.bytes.size();
+        Ok(())
+    }
+
+    // Has a file be of a size that is not refused.
+    fn resize(&mut self, id: u64, size: u64)
+        requires { (file : File) → row_at self.old id ≡ Some file → cut_refusal self.old id file size ≡ None }
+        ensures { IfSome (row_at self.old id) (λ file. self.new ≡ cut_file self.old id file size) }
+    {
+        let Some(file) = self.files.get_mut(&id) else {
+            return;
+        };
+        self.total = self.total - file.bytes.size() + size;
+        file.bytes.cut(size);
+    }
+
+    /// Has a file that is there be empty.
+    pub(crate) fn clear(&mut self, id: u64)
+        ensures { IfSome (row_at self.old id) (λ file. self.new ≡ with_other self.old id (record file { bytes = [] })) }
+    {
+        let Some(file) = self.files.get_mut(&id) else {
+            return;
+        };
+        self.total -= file.bytes.size();
+        file.bytes = Contents::new(self.alloc);
+    }
+
+    /// No directory has an entry of that file any more.
+    pub(crate) fn unlink(&mut self, id: u64)
+        ensures { IfSome (row_at self.old id) (λ file. self.new ≡ with_other self.old id (record file { linked = false })) }
+    {
+        let Some(file) = self.files.get_mut(&id) else {
+            return;
+        };
+        file.linked = false;
+    }
+
+    /// Frees a file with its pages.
+    pub(crate) fn remove(&mut self, id: u64)
+        ensures { self.new ≡ without self.old id }
+    {
+        let Some(file) = self.files.remove(&id) else {
+            return;
+        };
+        self.total -= file.bytes.size();
+    }
+
+    /// How many pages of all files hold a byte other than 0.
+    pub(crate) fn pages(&self) -> usize
+        ensures { result ≡ total_pages self.now }
+    {
+        let mut count = 0;
+        for file in self.files.values() {
+            count += file.bytes.pages();
+        }
+        count
+    }
+}
