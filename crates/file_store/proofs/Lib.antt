@@ -7,3 +7,6 @@ pub mod FileBytesLemmas
 pub mod ContentsLemmas
 pub mod TableLemmas
 pub mod SumLemmas
+pub mod FormLemmas
+pub mod LawLemmas
+pub mod SizeLaw

@@ -5,3 +5,4 @@ pub mod Pages
 pub mod Tables
 pub mod FileGroups
 pub mod FileTables
+pub mod Laws

@@ -1,6 +1,6 @@
 ghost use Rattle.std.specs.Prelude.{◌≡◌, ℕ, ◌<◌, ◌≤◌, ◌+ℤ◌, pos, Option, None, Some, MatchOption, IfOk, IfSome, OnErr};
 ghost use Rattle.std.specs.Option.{option_map};
-ghost use Rattle.file_store.specs.FileGroups.{opening, opened, file_at, description_at, made, attached, linked_size, unlinked, with_files, is_open, released, closed, read, read_at, write, write_at, seek, cut, size_of, natural, write_offset, seek_base, sought, fstep, total_pages};
+ghost use Rattle.file_store.specs.FileGroups.{opening, opened, file_at, description_at, made, attached, linked_size, unlinked, with_files, is_open, released, closed, read, read_at, write, write_at, seek, cut, size_of, natural, write_offset, seek_base, sought, fstep, IsForm, total_pages};
 
 use crate::description_table::DescriptionTable;
 use crate::file::{Description, File};
@@ -54,8 +54,10 @@ impl Files {
     }
 
     /// Takes one step, which is the definition's. Want of memory changes nothing.
+    #[tactic(auto, using(crate::proofs::FormLemmas::is_form))]
     pub fn apply(&mut self, op: &FileOp) -> Result<FileAnswer, AllocError>
         ensures ok { IfOk result (λ answer. fstep self.old op.now ≡ record { group = self.new; answer = answer }) }
+        ensures form { IfOk result (IsForm op.now) }
         ensures err { OnErr result (self.new ≡ self.old) }
     {
         match op {

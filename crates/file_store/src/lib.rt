@@ -5,6 +5,7 @@ pub use descriptor_operation::{FdAnswer, FdOp, Slot};
 pub use descriptors::Descriptors;
 pub use file_operation::{Access, FileAnswer, FileOp, Mode, Whence};
 pub use files::Files;
+pub use laws::{copies_share, offsets_are_apart, sizes_stay_within};
 
 mod contents;
 mod description_table;
@@ -14,6 +15,7 @@ mod file;
 mod file_operation;
 mod file_table;
 mod files;
+mod laws;
 mod number_set;
 mod page;
 mod pages;

@@ -1,0 +1,10 @@
+use Rattle.std.proofs.Common.{refl, ap}
+use Rattle.file_store.specs.declared.descriptor_operation.Slot.{Slot}
+use Rattle.file_store.specs.DescriptorMap.{looked_up}
+use Rattle.file_store.proofs.LawLemmas.{copy_shares}
+use Rattle.file_store.proofs.laws.copies_share.Goals as goal
+
+pub returns : goal.returns
+returns c = λ map number copy a.
+    let h = copy_shares map number copy _ _ refl refl a in
+    (ap (λ (s : Slot). looked_up s) h.0, ap (λ (s : Slot). looked_up s) h.1)

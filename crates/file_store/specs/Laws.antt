@@ -1,0 +1,40 @@
+-- What a user may conclude from the definitions of the descriptors and of a group's files.
+use Rattle.std.specs.Prelude.{◌≡◌, ◌≢◌, ℕ, ◌≤◌}
+use Rattle.file_store.specs.declared.descriptor_operation.FdOp.TheVariants as fd
+use Rattle.file_store.specs.declared.descriptor_operation.FdAnswer.TheVariants as fd_answer
+use Rattle.file_store.specs.declared.file_operation.FileOp.{FileOp}
+use Rattle.file_store.specs.declared.file_operation.FileOp.TheVariants as op
+use Rattle.file_store.specs.DescriptorMap.{Map, dstep}
+use Rattle.file_store.specs.FileGroups.{Group, fstep, description_at, total, group_limit}
+
+-- a copy of a number names what that number names, then as before. So both are of one description, and
+-- what is done by one of them moves the offset of the other
+abbrev pub CopiesShare : Type 0
+CopiesShare = (map : Map) (number copy : ℕ) → (dstep map (fd.Copy number)).answer ≡ fd_answer.Fd copy
+    → ((dstep (dstep map (fd.Copy number)).map (fd.Look copy)).answer ≡ (dstep map (fd.Look number)).answer)
+    × ((dstep (dstep map (fd.Copy number)).map (fd.Look number)).answer ≡ (dstep map (fd.Look number)).answer)
+
+-- the operation is on that description
+abbrev pub IsOn : ℕ → FileOp → Type 0
+IsOn id (op.Make mode) = ⊥
+IsOn id (op.Attach file mode truncate) = ⊥
+IsOn id (op.Sizeof file) = ⊥
+IsOn id (op.Unlinked file) = ⊥
+IsOn id (op.Release other) = other ≡ id
+IsOn id (op.Read other count) = other ≡ id
+IsOn id (op.Readat other count offset) = other ≡ id
+IsOn id (op.Write other bytes) = other ≡ id
+IsOn id (op.Writeat other bytes offset) = other ≡ id
+IsOn id (op.Seek other offset whence) = other ≡ id
+IsOn id (op.Cut other size) = other ≡ id
+IsOn id (op.Size other) = other ≡ id
+
+-- what is done by one description leaves each other one as it was, with its offset, also where both are of
+-- one file
+abbrev pub OffsetsAreApart : Type 0
+OffsetsAreApart = (group : Group) (id other : ℕ) (operation : FileOp) → IsOn id operation → other ≢ id
+    → description_at (fstep group operation).group other ≡ description_at group other
+
+-- the sizes of a group's files, removed ones that are still open among them, never pass the group's limit
+abbrev pub SizesStayWithin : Type 0
+SizesStayWithin = (group : Group) (operation : FileOp) → total group.files ≤ group_limit → total (fstep group operation).group.files ≤ group_limit
