@@ -19,3 +19,5 @@ mod laws;
 mod number_set;
 mod page;
 mod pages;
+#[cfg(test)]
+mod tests;

@@ -1,0 +1,4 @@
+mod descriptors;
+mod files;
+mod limits;
+mod steps;
