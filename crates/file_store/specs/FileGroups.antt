@@ -288,3 +288,13 @@ IsForm (op.Cut id size) _ = ⊥
 IsForm (op.Size id) (answer.Size size) = Unit {0}
 IsForm (op.Size id) (answer.Fault error) = error ≡ Ebadf
 IsForm (op.Size id) _ = ⊥
+
+-- the operations that take no memory
+abbrev pub takes_no_memory : FileOp → Bool
+takes_no_memory (op.Sizeof file) = true
+takes_no_memory (op.Unlinked file) = true
+takes_no_memory (op.Release id) = true
+takes_no_memory (op.Seek id offset whence) = true
+takes_no_memory (op.Cut id size) = true
+takes_no_memory (op.Size id) = true
+takes_no_memory _ = false

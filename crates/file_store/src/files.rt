@@ -1,6 +1,6 @@
-ghost use Rattle.std.specs.Prelude.{◌≡◌, ℕ, ◌<◌, ◌≤◌, ◌+ℤ◌, pos, Option, None, Some, MatchOption, IfOk, IfSome, OnErr};
+ghost use Rattle.std.specs.Prelude.{◌≡◌, ℕ, ◌<◌, ◌≤◌, ◌+ℤ◌, pos, Option, None, Some, MatchOption, true, IsOk, IfOk, IfSome, OnErr};
 ghost use Rattle.std.specs.Option.{option_map};
-ghost use Rattle.file_store.specs.FileGroups.{opening, opened, file_at, description_at, made, attached, linked_size, unlinked, with_files, is_open, released, closed, read, read_at, write, write_at, seek, cut, size_of, natural, write_offset, seek_base, sought, fstep, IsForm, total_pages};
+ghost use Rattle.file_store.specs.FileGroups.{opening, opened, file_at, description_at, made, attached, linked_size, unlinked, with_files, is_open, released, closed, read, read_at, write, write_at, seek, cut, size_of, natural, write_offset, seek_base, sought, fstep, IsForm, takes_no_memory, total_pages};
 
 use crate::description_table::DescriptionTable;
 use crate::file::{Description, File};
@@ -58,6 +58,7 @@ impl Files {
     pub fn apply(&mut self, op: &FileOp) -> Result<FileAnswer, AllocError>
         ensures ok { IfOk result (λ answer. fstep self.old op.now ≡ record { group = self.new; answer = answer }) }
         ensures form { IfOk result (IsForm op.now) }
+        ensures succeeds { takes_no_memory op.now ≡ true → IsOk result }
         ensures err { OnErr result (self.new ≡ self.old) }
     {
         match op {
