@@ -82,17 +82,17 @@ module _ {X : Type 0} where
   gone_first id other e es new apart true t h = sym (ap (λ (b : Bool). cond b (Some e.1) (lookup (is_at (nat_cmp other)) es)) (apart_tests id other e.0 apart t))
   gone_first id other e es new apart false t h = ap (λ (o : Option X). cond (is_at (nat_cmp other) e.0) (Some e.1) o) h
 
-  other_removed : (id other : ℕ) (es : List (ℕ × X)) → other ≢ id → lookup (is_at (nat_cmp other)) (remove_entry (is_at (nat_cmp id)) es) ≡ lookup (is_at (nat_cmp other)) es
+  pub other_removed : (id other : ℕ) (es : List (ℕ × X)) → other ≢ id → lookup (is_at (nat_cmp other)) (remove_entry (is_at (nat_cmp id)) es) ≡ lookup (is_at (nat_cmp other)) es
   other_removed id other [] apart = refl
   other_removed id other (e ∷ es) apart = gone_first id other e es (remove_entry (is_at (nat_cmp id)) es) apart (is_at (nat_cmp id) e.0) refl (other_removed id other es apart)
 
 -- a fact of one of two outcomes
-either : {X : Type 0} (P : X → Type 0) (b : Bool) (x y : X) → P x → P y → P (cond b x y)
+pub either : {X : Type 0} (P : X → Type 0) (b : Bool) (x y : X) → P x → P y → P (cond b x y)
 either P true x y px py = px
 either P false x y px py = py
 
 -- what is said of a group with or without a change
-unless : (P : FileOutcome → Type 0) (group : Group) (error : Option Errno) (done : FileOutcome) → P done → ((e : Errno) → P (file_stays group (answer.Fault e))) → P (unless_refused group error done)
+pub unless : (P : FileOutcome → Type 0) (group : Group) (error : Option Errno) (done : FileOutcome) → P done → ((e : Errno) → P (file_stays group (answer.Fault e))) → P (unless_refused group error done)
 unless P group None done d s = d
 unless P group (Some e) done d s = s e
 

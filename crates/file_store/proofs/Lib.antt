@@ -10,3 +10,4 @@ pub mod SumLemmas
 pub mod FormLemmas
 pub mod LawLemmas
 pub mod SizeLaw
+pub mod OpenFiles

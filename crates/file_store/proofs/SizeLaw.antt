@@ -19,6 +19,7 @@ use Rattle.file_store.specs.declared.file_operation.FileAnswer.TheVariants as an
 use Rattle.file_store.specs.FileBytes.{part}
 use Rattle.file_store.specs.FileGroups.{Group, Outcome, stays, fstep, file_at, description_at, opened, total, group_limit, empty_file, is_open, with_files, described, moved, attached, emptied, unlinked, swept, released, read, read_on, write, write_on, write_from, write_at, write_offset, put, put_refusal, unless_refused, seek, seek_to, seek_base, sought, natural, cut, cut_to, cut_file, cut_refusal, can_read, can_write, read_limit}
 use Rattle.file_store.specs.Tables.{Table, added, without}
+use Rattle.file_store.proofs.LawLemmas.{either}
 use Rattle.file_store.proofs.SumLemmas.{total_other, not_refused}
 
 abbrev size : File → ℕ
@@ -36,10 +37,6 @@ added_within (e ∷ es) k v = added_first e es k v (nat_cmp k e.0) (added_within
 
 without_within : (files : Table File) (id : ℕ) → total (without files id) ≤ total files
 without_within files id = omega (arith, sum_by-remove_entry (λ (f : File). length f.bytes) (is_at (nat_cmp id)) files.entries)
-
-either : {X : Type 0} (P : X → Type 0) (b : Bool) (x y : X) → P x → P y → P (cond b x y)
-either P true x y px py = px
-either P false x y px py = py
 
 unless : (P : Outcome → Type 0) (group : Group) (error : Option Errno) (done : Outcome) → (error ≡ None → P done) → ((e : Errno) → P (stays group (answer.Fault e))) → P (unless_refused group error done)
 unless P group None done d s = d refl

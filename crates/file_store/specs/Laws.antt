@@ -1,11 +1,13 @@
 -- What a user may conclude from the definitions of the descriptors and of a group's files.
-use Rattle.std.specs.Prelude.{◌≡◌, ◌≢◌, ℕ, ◌≤◌}
+use Rattle.std.specs.Prelude.{◌≡◌, ◌≢◌, ℕ, ◌≤◌, All, IsSome}
 use Rattle.file_store.specs.declared.descriptor_operation.FdOp.TheVariants as fd
 use Rattle.file_store.specs.declared.descriptor_operation.FdAnswer.TheVariants as fd_answer
 use Rattle.file_store.specs.declared.file_operation.FileOp.{FileOp}
 use Rattle.file_store.specs.declared.file_operation.FileOp.TheVariants as op
 use Rattle.file_store.specs.DescriptorMap.{Map, dstep}
-use Rattle.file_store.specs.FileGroups.{Group, fstep, description_at, total, group_limit}
+use Rattle.file_store.specs.declared.file.Description.{Description}
+use Rattle.file_store.specs.FileGroups.{Group, opening, fstep, file_at, description_at, total, group_limit}
+use Rattle.file_store.specs.Tables.{rows}
 
 -- a copy of a number names what that number names, then as before. So both are of one description, and
 -- what is done by one of them moves the offset of the other
@@ -38,3 +40,12 @@ OffsetsAreApart = (group : Group) (id other : ℕ) (operation : FileOp) → IsOn
 -- the sizes of a group's files, removed ones that are still open among them, never pass the group's limit
 abbrev pub SizesStayWithin : Type 0
 SizesStayWithin = (group : Group) (operation : FileOp) → total group.files ≤ group_limit → total (fstep group operation).group.files ≤ group_limit
+
+-- each description is of a file that is there
+abbrev pub HaveFiles : Group → Type 0
+HaveFiles group = All (λ (description : Description). IsSome (file_at group description.file)) (rows group.descriptions)
+
+-- so it is at first, and each operation leaves it so: no file goes that is open
+pub record OpenFilesStay : Type 0 where
+  pub opening : (group : ℕ) → HaveFiles (opening group)
+  pub kept : (group : Group) (operation : FileOp) → HaveFiles group → HaveFiles (fstep group operation).group

@@ -5,7 +5,7 @@ pub use descriptor_operation::{FdAnswer, FdOp, Slot};
 pub use descriptors::Descriptors;
 pub use file_operation::{Access, FileAnswer, FileOp, Mode, Whence};
 pub use files::Files;
-pub use laws::{copies_share, offsets_are_apart, sizes_stay_within};
+pub use laws::{copies_share, offsets_are_apart, open_files_stay, sizes_stay_within};
 
 mod contents;
 mod description_table;
