@@ -1,8 +1,10 @@
 -- Lemmas for the laws.
-use Rattle.std.proofs.Common.{◌≡◌, ◌≢◌, ℕ, zero, suc, ◌+◌, ◌==◌, Bool, true, false, cond, List, [], ◌∷◌, length, set, get_or, Option, None, Some, Result, Ok, Err, ℤ, pos, ◌+ℤ◌, nat_cmp, min, refl, sym, ap, ◌∙◌, arith}
+use Rattle.std.proofs.Common.{◌≡◌, ◌≢◌, inl, inr, ℕ, zero, suc, ◌+◌, ◌==◌, Bool, true, false, cond, List, [], ◌∷◌, length, set, get_or, Option, None, Some, Result, Ok, Err, ℤ, pos, ◌+ℤ◌, nat_cmp, min, refl, sym, ap, ◌∙◌, arith}
 use Rattle.std.specs.Map.{lookup, set_value, remove_entry}
 use Rattle.std.specs.BTreeMap.{is_at}
-use Rattle.std.proofs.lemmas.Bool.{false≢true}
+use Rattle.std.specs.Prelude.{nat_lt, ◌&&◌}
+use Rattle.std.proofs.lemmas.Bool.{false≢true, cases_eq}
+use borrow.Author.Tests.{ltb-true}
 use Rattle.std.proofs.lemmas.Bool.Decides.{nat_tests}
 use Rattle.std.proofs.lemmas.List.{get_or-set_same, get_or-set_other}
 use Rattle.std.proofs.lemmas.List.Quantifiers.{position-Some}
@@ -20,10 +22,10 @@ use Rattle.file_store.specs.declared.file_operation.Whence.{Whence}
 use Rattle.file_store.specs.declared.file_operation.FileOp.{FileOp}
 use Rattle.file_store.specs.declared.file_operation.FileOp.TheVariants as op
 use Rattle.file_store.specs.declared.file_operation.FileAnswer.TheVariants as answer
-use Rattle.file_store.specs.DescriptorMap.{Map, Outcome, stays, slot_at, is_free, is_named, lowest_free, placed, copied}
+use Rattle.file_store.specs.DescriptorMap.{Map, Outcome, stays, slot_at, is_free, is_named, lowest_free, placed, copied, copied_over, copied_to}
 use Rattle.file_store.specs.FileBytes.{part}
 use Rattle.file_store.specs.FileGroups.{Group, Outcome as FileOutcome, stays as file_stays, fstep, description_at, opened, with_files, moved, released, read, read_on, write, write_on, write_from, write_at, write_offset, put, put_refusal, unless_refused, seek, seek_to, seek_base, sought, natural, cut, cut_to, cut_file, cut_refusal, can_read, can_write, read_limit}
-use Rattle.file_store.specs.Laws.{IsOn}
+use Rattle.file_store.specs.Laws.{IsOn, is_copied}
 use Rattle.file_store.specs.Tables.{Table}
 
 -- what a number is, as an element of the list
@@ -62,6 +64,38 @@ copy_shares map number copy true (Some place) e f a =
     not_named slot.Reserved h = absurd (false≢true h)
     not_named (slot.File k d) h = absurd (false≢true h)
     not_named (slot.Dir k i) h = absurd (false≢true h)
+
+-- a number that took the place of another, by what that was
+copied_map : (map : Map) (target : ℕ) (named old : Slot) → is_copied (copied_over map target named old).answer ≡ true → (copied_over map target named old).map ≡ set map target named
+copied_map map target named slot.Free done = refl
+copied_map map target named slot.Reserved done = absurd (false≢true done)
+copied_map map target named (slot.File k d) done = refl
+copied_map map target named (slot.Dir k i) done = refl
+
+-- a copy to a number, by whether the first is named and the second is one of the numbers
+pub copy_to_shares : (map : Map) (number target : ℕ) (a b : Bool) → is_named (slot_at map number) ≡ a → nat_lt target (length map) ≡ b → is_copied (copied_to map (slot_at map number) target).answer ≡ true → (slot_at (copied_to map (slot_at map number) target).map target ≡ slot_at map number) × (slot_at (copied_to map (slot_at map number) target).map number ≡ slot_at map number)
+copy_to_shares map number target false b e f done = absurd (false≢true (ap (λ (x : Bool). is_copied (cond (x && nat_lt target (length map)) (copied_over map target (slot_at map number) (slot_at map target)) (stays map (fd_answer.Fault Ebadf))).answer) (sym e) ∙ done))
+copy_to_shares map number target true false e f done = absurd (false≢true (ap (λ (x : Bool). is_copied (cond x (copied_over map target (slot_at map number) (slot_at map target)) (stays map (fd_answer.Fault Ebadf))).answer) (sym neither) ∙ done)) where
+  neither : (is_named (slot_at map number) && nat_lt target (length map)) ≡ false
+  neither = ap (λ (x : Bool). x && nat_lt target (length map)) e ∙ f
+copy_to_shares map number target true true e f done = (at target (λ ne. absurd (ne refl)), at number (λ ne. get_or-set_other map target number named slot.Free ne ∙ sym (slot_is map number))) where
+  named : Slot
+  named = slot_at map number
+
+  both : (is_named (slot_at map number) && nat_lt target (length map)) ≡ true
+  both = ap (λ (x : Bool). x && nat_lt target (length map)) e ∙ f
+
+  over : copied_to map (slot_at map number) target ≡ copied_over map target (slot_at map number) (slot_at map target)
+  over = ap (λ (x : Bool). cond x (copied_over map target (slot_at map number) (slot_at map target)) (stays map (fd_answer.Fault Ebadf))) both
+
+  new : (copied_to map (slot_at map number) target).map ≡ set map target (slot_at map number)
+  new = ap (λ (o : Outcome). o.map) over ∙ copied_map map target (slot_at map number) (slot_at map target) (ap (λ (o : Outcome). is_copied o.answer) (sym over) ∙ done)
+
+  at : (n : ℕ) → (n ≢ target → get_or (set map target (slot_at map number)) n slot.Free ≡ slot_at map number) → slot_at (copied_to map (slot_at map number) target).map n ≡ slot_at map number
+  at n other = slot_is (copied_to map (slot_at map number) target).map n ∙ ap (λ (m : Map). get_or m n slot.Free) new ∙ elim (cases_eq n target) [
+    | inl same ↦ ap (λ (k : ℕ). get_or (set map target (slot_at map number)) k slot.Free) same ∙ get_or-set_same map target (slot_at map number) slot.Free (ltb-true target (length map) f)
+    | inr ne ↦ other ne
+  ]
 
 apart_tests : (id other : ℕ) (key : ℕ) → other ≢ id → is_at (nat_cmp id) key ≡ true → is_at (nat_cmp other) key ≡ false
 apart_tests id other key apart e = let same : id ≡ key = tells_apart exact_unsigned id key e in grind (arith, nat_tests)

@@ -1,6 +1,8 @@
 -- What a user may conclude from the definitions of the descriptors and of a group's files.
-use Rattle.std.specs.Prelude.{◌≡◌, ◌≢◌, ℕ, ◌≤◌, All, IsSome}
+use Rattle.std.specs.Prelude.{◌≡◌, ◌≢◌, ℕ, ◌≤◌, Bool, true, false, All, IsSome}
+use Rattle.file_store.specs.declared.descriptor_operation.FdOp.{FdOp}
 use Rattle.file_store.specs.declared.descriptor_operation.FdOp.TheVariants as fd
+use Rattle.file_store.specs.declared.descriptor_operation.FdAnswer.{FdAnswer}
 use Rattle.file_store.specs.declared.descriptor_operation.FdAnswer.TheVariants as fd_answer
 use Rattle.file_store.specs.declared.file_operation.FileOp.{FileOp}
 use Rattle.file_store.specs.declared.file_operation.FileOp.TheVariants as op
@@ -9,12 +11,22 @@ use Rattle.file_store.specs.declared.file.Description.{Description}
 use Rattle.file_store.specs.FileGroups.{Group, opening, fstep, file_at, description_at, total, group_limit}
 use Rattle.file_store.specs.Tables.{rows}
 
--- a copy of a number names what that number names, then as before. So both are of one description, and
--- what is done by one of them moves the offset of the other
-abbrev pub CopiesShare : Type 0
-CopiesShare = (map : Map) (number copy : ℕ) → (dstep map (fd.Copy number)).answer ≡ fd_answer.Fd copy
-    → ((dstep (dstep map (fd.Copy number)).map (fd.Look copy)).answer ≡ (dstep map (fd.Look number)).answer)
-    × ((dstep (dstep map (fd.Copy number)).map (fd.Look number)).answer ≡ (dstep map (fd.Look number)).answer)
+-- both numbers name, after an operation, what the first named before it
+abbrev pub NameOne : Map → FdOp → ℕ → ℕ → Type 0
+NameOne map operation number copy = ((dstep (dstep map operation).map (fd.Look copy)).answer ≡ (dstep map (fd.Look number)).answer)
+    × ((dstep (dstep map operation).map (fd.Look number)).answer ≡ (dstep map (fd.Look number)).answer)
+
+-- a number was copied to that one
+abbrev pub is_copied : FdAnswer → Bool
+is_copied (fd_answer.Fd copy) = true
+is_copied (fd_answer.FdLast copy backend description) = true
+is_copied _ = false
+
+-- A copy of a number names what that number names, then as before. So both are of one description, and
+-- what is done by one of them moves the offset of the other.
+pub record CopiesShare : Type 0 where
+  pub copy : (map : Map) (number copy : ℕ) → (dstep map (fd.Copy number)).answer ≡ fd_answer.Fd copy → NameOne map (fd.Copy number) number copy
+  pub copy_to : (map : Map) (number target : ℕ) → is_copied (dstep map (fd.Copyto number target)).answer ≡ true → NameOne map (fd.Copyto number target) number target
 
 -- the operation is on that description
 abbrev pub IsOn : ℕ → FileOp → Type 0
