@@ -126,9 +126,12 @@ either P true x y px py = px
 either P false x y px py = py
 
 -- what is said of a group with or without a change
+pub allowed : (P : FileOutcome → Type 0) (group : Group) (error : Option Errno) (done : FileOutcome) → (error ≡ None → P done) → ((e : Errno) → P (file_stays group (answer.Fault e))) → P (unless_refused group error done)
+allowed P group None done d s = d refl
+allowed P group (Some e) done d s = s e
+
 pub unless : (P : FileOutcome → Type 0) (group : Group) (error : Option Errno) (done : FileOutcome) → P done → ((e : Errno) → P (file_stays group (answer.Fault e))) → P (unless_refused group error done)
-unless P group None done d s = d
-unless P group (Some e) done d s = s e
+unless P group error done d s = allowed P group error done (λ e. d) s
 
 -- another description stays as it was
 module _ (group : Group) (id other : ℕ) (apart : other ≢ id) where

@@ -18,8 +18,9 @@ use Rattle.file_store.specs.declared.file_operation.FileOp.TheVariants as op
 use Rattle.file_store.specs.declared.file_operation.FileAnswer.TheVariants as answer
 use Rattle.file_store.specs.FileBytes.{part}
 use Rattle.file_store.specs.FileGroups.{Group, Outcome, stays, fstep, file_at, description_at, opened, total, group_limit, empty_file, is_open, with_files, described, moved, attached, emptied, unlinked, swept, released, read, read_on, write, write_on, write_from, write_at, write_offset, put, put_refusal, unless_refused, seek, seek_to, seek_base, sought, natural, cut, cut_to, cut_file, cut_refusal, can_read, can_write, read_limit}
+use Rattle.file_store.specs.Laws.{SizesStayWithin}
 use Rattle.file_store.specs.Tables.{Table, added, without}
-use Rattle.file_store.proofs.LawLemmas.{either}
+use Rattle.file_store.proofs.LawLemmas.{allowed, either}
 use Rattle.file_store.proofs.SumLemmas.{total_other, not_refused}
 
 abbrev size : File → ℕ
@@ -37,10 +38,6 @@ added_within (e ∷ es) k v = added_first e es k v (nat_cmp k e.0) (added_within
 
 without_within : (files : Table File) (id : ℕ) → total (without files id) ≤ total files
 without_within files id = omega (arith, sum_by-remove_entry (λ (f : File). length f.bytes) (is_at (nat_cmp id)) files.entries)
-
-unless : (P : Outcome → Type 0) (group : Group) (error : Option Errno) (done : Outcome) → (error ≡ None → P done) → ((e : Errno) → P (stays group (answer.Fault e))) → P (unless_refused group error done)
-unless P group None done d s = d refl
-unless P group (Some e) done d s = s e
 
 abbrev Within : Outcome → Type 0
 Within o = total o.group.files ≤ group_limit
@@ -77,7 +74,7 @@ module _ (group : Group) (within : total group.files ≤ group_limit) where
 
   write_on_within : (id : ℕ) (description : Description) (file : File) (at : ℕ) (bytes : List ℕ) → Within (write_on group id description file at bytes)
   write_on_within id description file at bytes =
-      unless Within group (put_refusal group.files description.file file at bytes) (record { group = moved (with_files group (put group.files description.file file at bytes)) id description (at + length bytes); answer = answer.Count (length bytes) }) (λ e. (not_refused (at + length bytes) (put group.files description.file file at bytes) e).1) (λ e. within)
+      allowed Within group (put_refusal group.files description.file file at bytes) (record { group = moved (with_files group (put group.files description.file file at bytes)) id description (at + length bytes); answer = answer.Count (length bytes) }) (λ e. (not_refused (at + length bytes) (put group.files description.file file at bytes) e).1) (λ e. within)
 
   write_within : (id : ℕ) (bytes : List ℕ) (found : Option (Description × File)) → Within (write group id bytes found)
   write_within id bytes None = within
@@ -89,7 +86,7 @@ module _ (group : Group) (within : total group.files ≤ group_limit) where
   write_from_within id file bytes None = within
   write_from_within id file bytes (Some at) =
       let done : Outcome = record { group = with_files group (put group.files id file at bytes); answer = answer.Count (length bytes) } in
-      either Within (length bytes == 0) (stays group (answer.Count 0)) (unless_refused group (put_refusal group.files id file at bytes) done) within (unless Within group (put_refusal group.files id file at bytes) done (λ e. (not_refused (at + length bytes) (put group.files id file at bytes) e).1) (λ e. within))
+      either Within (length bytes == 0) (stays group (answer.Count 0)) (unless_refused group (put_refusal group.files id file at bytes) done) within (allowed Within group (put_refusal group.files id file at bytes) done (λ e. (not_refused (at + length bytes) (put group.files id file at bytes) e).1) (λ e. within))
 
   write_at_within : (bytes : List ℕ) (offset : ℤ) (found : Option (Description × File)) → Within (write_at group bytes offset found)
   write_at_within bytes offset None = within
@@ -107,7 +104,7 @@ module _ (group : Group) (within : total group.files ≤ group_limit) where
   cut_to_within : (id : ℕ) (file : File) (at : Option ℕ) → Within (cut_to group id file at)
   cut_to_within id file None = within
   cut_to_within id file (Some at) =
-      unless Within group (cut_refusal group.files id file at) (record { group = with_files group (cut_file group.files id file at); answer = answer.Done }) (λ e. (not_refused at (cut_file group.files id file at) e).1) (λ e. within)
+      allowed Within group (cut_refusal group.files id file at) (record { group = with_files group (cut_file group.files id file at); answer = answer.Done }) (λ e. (not_refused at (cut_file group.files id file at) e).1) (λ e. within)
 
   cut_within : (size : ℤ) (found : Option (Description × File)) → Within (cut group size found)
   cut_within size None = within
@@ -115,7 +112,7 @@ module _ (group : Group) (within : total group.files ≤ group_limit) where
       either Within (can_write o.0.mode.access) (cut_to group o.0.file o.1 (natural size)) (stays group (answer.Fault Einval)) (cut_to_within o.0.file o.1 (natural size)) within
 
 -- no operation brings the sum over its limit
-pub steps_stay_within : (group : Group) (o : FileOp) → total group.files ≤ group_limit → total (fstep group o).group.files ≤ group_limit
+steps_stay_within : (group : Group) (o : FileOp) → total group.files ≤ group_limit → total (fstep group o).group.files ≤ group_limit
 steps_stay_within group (op.Make mode) within = made_within group within
 steps_stay_within group (op.Attach file mode truncate) within = attached_within group within file mode truncate (file_at group file) refl
 steps_stay_within group (op.Sizeof file) within = within
@@ -128,3 +125,6 @@ steps_stay_within group (op.Writeat id bytes offset) within = write_at_within gr
 steps_stay_within group (op.Seek id offset whence) within = seek_within group within id offset whence (opened group id)
 steps_stay_within group (op.Cut id size) within = cut_within group within size (opened group id)
 steps_stay_within group (op.Size id) within = within
+
+pub sizes_stay_within : SizesStayWithin
+sizes_stay_within = record { opening = λ group. omega arith; kept = steps_stay_within }

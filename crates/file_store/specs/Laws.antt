@@ -49,9 +49,11 @@ abbrev pub OffsetsAreApart : Type 0
 OffsetsAreApart = (group : Group) (id other : ℕ) (operation : FileOp) → IsOn id operation → other ≢ id
     → description_at (fstep group operation).group other ≡ description_at group other
 
--- the sizes of a group's files, removed ones that are still open among them, never pass the group's limit
-abbrev pub SizesStayWithin : Type 0
-SizesStayWithin = (group : Group) (operation : FileOp) → total group.files ≤ group_limit → total (fstep group operation).group.files ≤ group_limit
+-- the sizes of a group's files, removed ones that are still open among them, are within the group's limit at first,
+-- and each operation leaves them so
+pub record SizesStayWithin : Type 0 where
+  pub opening : (group : ℕ) → total (opening group).files ≤ group_limit
+  pub kept : (group : Group) (operation : FileOp) → total group.files ≤ group_limit → total (fstep group operation).group.files ≤ group_limit
 
 -- each description is of a file that is there
 abbrev pub HaveFiles : Group → Type 0

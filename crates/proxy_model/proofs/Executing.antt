@@ -49,14 +49,15 @@ mail_noted w n checking seen_empty o told = record {
 receive_mail_keeps : Keeps event.ReceiveMail
 receive_mail_keeps w o e = mail_noted w note.Received true false o (λ some. omega arith)
 
+-- an exchange of received for none leaves what is pending
+exchanged_pending : (n : Note) → bit (is_pending (note_exchanged n)) ≡ bit (is_pending n)
+exchanged_pending note.None = refl
+exchanged_pending note.Pending = refl
+exchanged_pending note.Received = refl
+
 finish_mail_keeps : Keeps event.FinishMail
 finish_mail_keeps w o e = mail_noted w (note_exchanged w.mail_note) false w.seen_empty o
-    (λ some. let none_seen : bit (w.checking && not w.seen_empty) ≡ 0 = rw (e.conditions.0, e.conditions.1) refl in let told = o.mail some in let same = still_pending w.mail_note in omega arith)
-  where
-    still_pending : (n : Note) → bit (is_pending (note_exchanged n)) ≡ bit (is_pending n)
-    still_pending note.None = refl
-    still_pending note.Pending = refl
-    still_pending note.Received = refl
+    (λ some. let none_seen : bit (w.checking && not w.seen_empty) ≡ 0 = rw (e.conditions.0, e.conditions.1) refl in let told = o.mail some in let same = exchanged_pending w.mail_note in omega arith)
 
 -- a place that the owner has got is got under some notice
 got_of : (at_place : Serving) → IsTrue (is_got at_place) → (k : ℕ) × (at_place ≡ serving.Got k)
@@ -113,11 +114,6 @@ direct_keeps p w o e = serves w p w.note serving.Direct (λ q ne. refl) here o w
   }
 
 -- an exchange of received for none leaves no received
-exchanged_pending : (n : Note) → bit (is_pending (note_exchanged n)) ≡ bit (is_pending n)
-exchanged_pending note.None = refl
-exchanged_pending note.Pending = refl
-exchanged_pending note.Received = refl
-
 exchanged_not_received : (n : Note) → note_exchanged n ≡ note.Received → ⊥
 exchanged_not_received note.None is = cc
 exchanged_not_received note.Pending is = cc

@@ -1,5 +1,5 @@
 -- What a run leaves of the marks and the jobs of a place.
-use Rattle.std.proofs.Common.{◌≡◌, ◌⊎◌, inl, inr, ℕ, ◌<◌, ◌≤◌, Bool, true, false, cond, Option, Some, None, List, [], ◌∷◌, ◌++◌, length, length-append, get_or, refl, arith, ap, sym, subst, ◌∙◌}
+use Rattle.std.proofs.Common.{◌≡◌, ◌≢◌, ◌⊎◌, inl, inr, ℕ, ◌<◌, ◌≤◌, Bool, true, false, cond, Option, Some, None, List, [], ◌∷◌, ◌++◌, length, length-append, get_or, refl, arith, ap, sym, subst, ◌∙◌}
 use Rattle.std.specs.Prelude.{nat_lt}
 use Rattle.std.proofs.Math.ListN.{get_or-append, length-set}
 use Rattle.std.proofs.lemmas.Bool.{cases_eq, cases_lt, lt-ltb, le-ltb}
@@ -129,8 +129,16 @@ may_become old new p n grows = elim (cases_lt n (taken old p)) [
       rw (lt-ltb n (put old p) was_put, lt-ltb n (put new p) now) (by_new (nat_lt n (taken new p)) (taken_fate (job_at (new.jobs p) n).fate))
   by_put (inr not_put) = rw (le-ltb n (put old p) not_put) tt
 
+-- a job that was put has a fate
+put_has_fate : (w : WorldState) (p n : ℕ) → n < put w p → fate_of w p n ≢ None
+put_has_fate w p n near = elim (cases_lt n (taken w p)) [
+  | inl was_taken ↦ rw (lt-ltb n (taken w p) was_taken) (λ is. cc)
+  | inr not_taken ↦ rw (le-ltb n (taken w p) not_taken, lt-ltb n (put w p) near) (λ is. cc)
+]
+
 pub jobs_are_kept : JobsAreKept
 jobs_are_kept w events end p n led = let grows = run_grows w events end p led in record {
+  has_fate = put_has_fate w p n;
   mark = λ d near. ((let x = grows.marks.longer in omega arith), grows.marks.same n d near);
   start = λ near. ((let x = grows.jobs.longer in omega arith), grows.jobs.start n near);
   fate = may_become w end p n grows;

@@ -1,5 +1,5 @@
 -- What the invariant promises to those who use a target.
-use Rattle.std.specs.Prelude.{◌≡◌, ◌≢◌, ℕ, ◌<◌, ◌≤◌, Bool, true, false, IsTrue, List, All, slice_index_or}
+use Rattle.std.specs.Prelude.{◌≡◌, ◌≢◌, ℕ, ◌<◌, ◌≤◌, Bool, true, false, IsTrue, List, None, All, slice_index_or}
 use Rattle.proxy_model.specs.declared.actors.Actor.{Actor}
 use Rattle.proxy_model.specs.declared.actors.Actor.TheVariants as actor
 use Rattle.proxy_model.specs.declared.actors.Note.TheVariants as note
@@ -87,8 +87,10 @@ pub data IsMinded (w : WorldState) (p : ℕ) : Type 0 where
 abbrev pub NothingIsLost : Type 0
 NothingIsLost = (w : WorldState) (p : ℕ) → Sound w → p < w.places → taken w p < put w p → IsMinded w p
 
--- what a run leaves of job number n at p: its mark, its start once it was taken, and its fate once it is settled
+-- what a run leaves of job number n at p, which has a fate from when it was put: its mark, its start once it was
+-- taken, and its fate once it is settled
 pub record IsJobKept (old new : WorldState) (p n : ℕ) : Type 0 where
+  pub has_fate : n < put old p → fate_of old p n ≢ None
   pub mark : (d : Mark) → n < put old p → (n < put new p) × (slice_index_or (new.sent p) n d ≡ slice_index_or (old.sent p) n d)
   pub start : n < taken old p → (n < taken new p) × ((job_at (new.jobs p) n).started ≡ (job_at (old.jobs p) n).started)
   pub fate : MayBecome (fate_of old p n) (fate_of new p n)
