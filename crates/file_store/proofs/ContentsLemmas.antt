@@ -17,8 +17,8 @@ use Rattle.std.proofs.lemmas.Map.Keys.{IsDistinct-from_sorted, sorted_from_stric
 use Rattle.std.proofs.lemmas.Map.Lookups.{exact_unsigned}
 use Rattle.std.proofs.lemmas.Map.Made.{length-from_same_keys, is_member-filter, is_some-lookup}
 use Rattle.std.proofs.lemmas.Map.Views.{tells_apart}
-use Rattle.file_store.specs.FileBytes.{part, resized, overwritten, is_page_kept, page_count}
-use Rattle.file_store.specs.Pages.{PageEntries, kept_page, page_at, byte_at, zero_page, flat, overlaid, AreWhole, AreTightWithin}
+use Rattle.file_store.specs.FileBytes.{part, with_length, with_bytes_at, is_page_kept, page_count}
+use Rattle.file_store.specs.Pages.{PageEntries, kept_page, page_at, byte_at, zero_page, flat, overlay_byte, AreWhole, AreTightWithin}
 use Rattle.file_store.proofs.FileBytesLemmas.{length-resized, resized_at, length-overwritten, overwritten_at, length-part, part_at, all_zero_from}
 use Rattle.file_store.proofs.WriteLemmas.{overlaid_after, nonzero_place, not_all_zero}
 
@@ -40,22 +40,17 @@ flat_is size pages xs e h =
     let low : k < size = omega (arith, length-flat size pages) in
     get_or-map-range_with_len (byte_at pages) 0 size k k d low (omega arith) ∙ h k low ∙ get_or_default xs k 0 d (omega arith))
 
-pub cut_is : (size old_size : ℕ) (old new : PageEntries) → ((i : ℕ) → old_size ≤ i → byte_at old i ≡ 0) → ((i : ℕ) → i < size → byte_at new i ≡ byte_at old i) → flat size new ≡ resized size (flat old_size old)
+pub cut_is : (size old_size : ℕ) (old new : PageEntries) → ((i : ℕ) → old_size ≤ i → byte_at old i ≡ 0) → ((i : ℕ) → i < size → byte_at new i ≡ byte_at old i) → flat size new ≡ with_length size (flat old_size old)
 cut_is size old_size old new past same =
-    flat_is size new (resized size (flat old_size old)) (length-resized size (flat old_size old)) (λ i low. same i low ∙ sym (resized_at size (flat old_size old) i low ∙ flat_at old_size old past i))
+    flat_is size new (with_length size (flat old_size old)) (length-resized size (flat old_size old)) (λ i low. same i low ∙ sym (resized_at size (flat old_size old) i low ∙ flat_at old_size old past i))
 
-pub write_is : (size at : ℕ) (old mid new : PageEntries) (bytes : List ℕ) → ((i : ℕ) → size ≤ i → byte_at old i ≡ 0) → ((i : ℕ) → byte_at mid i ≡ byte_at old i) → ((i : ℕ) → byte_at new i ≡ overlaid (byte_at mid) at bytes i) → flat (max size (at + length bytes)) new ≡ overwritten (flat size old) at bytes
+pub write_is : (size at : ℕ) (old mid new : PageEntries) (bytes : List ℕ) → ((i : ℕ) → size ≤ i → byte_at old i ≡ 0) → ((i : ℕ) → byte_at mid i ≡ byte_at old i) → ((i : ℕ) → byte_at new i ≡ overlay_byte (byte_at mid) at bytes i) → flat (max size (at + length bytes)) new ≡ with_bytes_at (flat size old) at bytes
 write_is size at old mid new bytes past same written =
-    let sizes : length (overwritten (flat size old) at bytes) ≡ max size (at + length bytes) = length-overwritten (flat size old) at bytes ∙ ap (λ (n : ℕ). max n (at + length bytes)) (length-flat size old) in
-    flat_is (max size (at + length bytes)) new (overwritten (flat size old) at bytes) sizes (λ i low. written i ∙ under i ∙ sym (overwritten_at (flat size old) at bytes i))
+    let sizes : length (with_bytes_at (flat size old) at bytes) ≡ max size (at + length bytes) = length-overwritten (flat size old) at bytes ∙ ap (λ (n : ℕ). max n (at + length bytes)) (length-flat size old) in
+    flat_is (max size (at + length bytes)) new (with_bytes_at (flat size old) at bytes) sizes (λ i low. written i ∙ under i ∙ sym (overwritten_at (flat size old) at bytes i))
   where
-    under : (i : ℕ) → overlaid (byte_at mid) at bytes i ≡ overlaid (λ k. get_or (flat size old) k 0) at bytes i
+    under : (i : ℕ) → overlay_byte (byte_at mid) at bytes i ≡ overlay_byte (λ k. get_or (flat size old) k 0) at bytes i
     under i = ap (λ (b : ℕ). cond (leb at i && ltb i (at + length bytes)) (get_or bytes (i - at) 0) b) (same i ∙ sym (flat_at size old past i))
-
--- no byte past the new end is other than 0
-pub write_past : (size at : ℕ) (old mid new : PageEntries) (bytes : List ℕ) → ((i : ℕ) → size ≤ i → byte_at old i ≡ 0) → ((i : ℕ) → byte_at mid i ≡ byte_at old i) → ((i : ℕ) → byte_at new i ≡ overlaid (byte_at mid) at bytes i) → (i : ℕ) → max size (at + length bytes) ≤ i → byte_at new i ≡ 0
-write_past size at old mid new bytes past same written i high =
-    written i ∙ overlaid_after (byte_at mid) at bytes i (omega arith) ∙ same i ∙ past i (omega arith)
 
 pub read_is : (size offset count len : ℕ) (pages : PageEntries) (bytes : List ℕ) → ((i : ℕ) → size ≤ i → byte_at pages i ≡ 0) → len ≡ min count (size - offset) → length bytes ≡ len → ((j : ℕ) → j < len → get_or bytes j 0 ≡ byte_at pages (offset + j)) → bytes ≡ part (flat size pages) offset count
 read_is size offset count len pages bytes past e l h =

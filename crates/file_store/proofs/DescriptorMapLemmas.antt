@@ -9,7 +9,7 @@ use Rattle.file_store.specs.declared.descriptor_operation.FdOp.{FdOp}
 use Rattle.file_store.specs.declared.descriptor_operation.FdOp.TheVariants as op
 use Rattle.file_store.specs.declared.descriptor_operation.FdAnswer.{FdAnswer}
 use Rattle.file_store.specs.declared.descriptor_operation.FdAnswer.TheVariants as answer
-use Rattle.file_store.specs.DescriptorMap.{Map, Outcome, IsForm, dstep, is_free, is_reserved, is_named, is_open, slot_at, lowest_free, stays, changed, placed, looked_up, copied_over, taken}
+use Rattle.file_store.specs.DescriptorMap.{Map, DescriptorsOutcome, IsForm, dstep, is_free, is_reserved, is_named, is_description_open, slot_at, lowest_free, outcome_of, outcome_with, place_outcome, look_answer, copyto_outcome_over, take_outcome}
 
 module _ {X : Type 0} where
   prefix_len-map : (f : X → Bool) (xs : List X) → prefix_len (λ (b : Bool). not b) (map f xs) ≡ prefix_len (λ (x : X). not (f x)) xs
@@ -25,38 +25,38 @@ pub all_free : (n : ℕ) → map is_free (replicate n slot.Free) ≡ replicate n
 all_free zero = refl
 all_free (suc n) = ap (λ (bs : List Bool). true ∷ bs) (all_free n)
 
-over_form : (map : Map) (n m : ℕ) (new old : Slot) → IsForm (op.Copyto n m) (copied_over map m new old).answer
+over_form : (map : Map) (n m : ℕ) (new old : Slot) → IsForm (op.Copyto n m) (copyto_outcome_over map m new old).answer
 over_form map n m new slot.Free = tt
 over_form map n m new slot.Reserved = inr refl
 over_form map n m new (slot.File k d) =
-    elim (is_open k d (slice_set map m new)) as (λ b. IsForm (op.Copyto n m) (if b then answer.Fd m else answer.FdLast m k d)) [ true ↦ tt | false ↦ tt ]
+    elim (is_description_open k d (slice_set map m new)) as (λ b. IsForm (op.Copyto n m) (if b then answer.Fd m else answer.FdLast m k d)) [ true ↦ tt | false ↦ tt ]
 over_form map n m new (slot.Dir k i) = tt
 
-taken_form : (map : Map) (n : ℕ) (old : Slot) → IsForm (op.Take n) (taken map n old).answer
+taken_form : (map : Map) (n : ℕ) (old : Slot) → IsForm (op.Take n) (take_outcome map n old).answer
 taken_form map n slot.Free = refl
 taken_form map n slot.Reserved = refl
 taken_form map n (slot.File k d) =
-    elim (is_open k d (slice_set map n slot.Free)) as (λ b. IsForm (op.Take n) (if b then answer.Done else answer.Last k d)) [ true ↦ tt | false ↦ tt ]
+    elim (is_description_open k d (slice_set map n slot.Free)) as (λ b. IsForm (op.Take n) (if b then answer.Done else answer.Last k d)) [ true ↦ tt | false ↦ tt ]
 taken_form map n (slot.Dir k i) = tt
 
 -- the answers of an operation have its forms
 form : (map : Map) (o : FdOp) → IsForm o (dstep map o).answer
-form map op.Reserve = elim (lowest_free map) as (λ n. IsForm op.Reserve (placed map slot.Reserved n).answer) [ None ↦ refl | Some n ↦ tt ]
-form map (op.FillFile n k d) = elim (is_reserved (slot_at map n)) as (λ b. IsForm (op.FillFile n k d) (if b then changed map n (slot.File k d) answer.Done else stays map answer.Done).answer) [ true ↦ tt | false ↦ tt ]
-form map (op.FillDir n k i) = elim (is_reserved (slot_at map n)) as (λ b. IsForm (op.FillDir n k i) (if b then changed map n (slot.Dir k i) answer.Done else stays map answer.Done).answer) [ true ↦ tt | false ↦ tt ]
-form map (op.Drop n) = elim (is_reserved (slot_at map n)) as (λ b. IsForm (op.Drop n) (if b then changed map n slot.Free answer.Done else stays map answer.Done).answer) [ true ↦ tt | false ↦ tt ]
-form map (op.Look n) = elim (slot_at map n) as (λ s. IsForm (op.Look n) (looked_up s)) [ slot.Free ↦ refl | slot.Reserved ↦ refl | slot.File k d ↦ tt | slot.Dir k i ↦ tt ]
+form map op.Reserve = elim (lowest_free map) as (λ n. IsForm op.Reserve (place_outcome map slot.Reserved n).answer) [ None ↦ refl | Some n ↦ tt ]
+form map (op.FillFile n k d) = elim (is_reserved (slot_at map n)) as (λ b. IsForm (op.FillFile n k d) (if b then outcome_with map n (slot.File k d) answer.Done else outcome_of map answer.Done).answer) [ true ↦ tt | false ↦ tt ]
+form map (op.FillDir n k i) = elim (is_reserved (slot_at map n)) as (λ b. IsForm (op.FillDir n k i) (if b then outcome_with map n (slot.Dir k i) answer.Done else outcome_of map answer.Done).answer) [ true ↦ tt | false ↦ tt ]
+form map (op.Drop n) = elim (is_reserved (slot_at map n)) as (λ b. IsForm (op.Drop n) (if b then outcome_with map n slot.Free answer.Done else outcome_of map answer.Done).answer) [ true ↦ tt | false ↦ tt ]
+form map (op.Look n) = elim (slot_at map n) as (λ s. IsForm (op.Look n) (look_answer s)) [ slot.Free ↦ refl | slot.Reserved ↦ refl | slot.File k d ↦ tt | slot.Dir k i ↦ tt ]
 form map (op.Copy n) =
-    elim (is_named (slot_at map n)) as (λ b. IsForm (op.Copy n) (if b then placed map (slot_at map n) (lowest_free map) else stays map (answer.Fault Ebadf)).answer) [
-      | true ↦ elim (lowest_free map) as (λ m. IsForm (op.Copy n) (placed map (slot_at map n) m).answer) [ None ↦ inr refl | Some m ↦ tt ]
+    elim (is_named (slot_at map n)) as (λ b. IsForm (op.Copy n) (if b then place_outcome map (slot_at map n) (lowest_free map) else outcome_of map (answer.Fault Ebadf)).answer) [
+      | true ↦ elim (lowest_free map) as (λ m. IsForm (op.Copy n) (place_outcome map (slot_at map n) m).answer) [ None ↦ inr refl | Some m ↦ tt ]
       | false ↦ inl refl
     ]
 form map (op.Copyto n m) =
-    elim (is_named (slot_at map n) && nat_lt m (length map)) as (λ b. IsForm (op.Copyto n m) (if b then copied_over map m (slot_at map n) (slot_at map m) else stays map (answer.Fault Ebadf)).answer) [
+    elim (is_named (slot_at map n) && nat_lt m (length map)) as (λ b. IsForm (op.Copyto n m) (if b then copyto_outcome_over map m (slot_at map n) (slot_at map m) else outcome_of map (answer.Fault Ebadf)).answer) [
       | true ↦ over_form map n m (slot_at map n) (slot_at map m)
       | false ↦ inl refl
     ]
 form map (op.Take n) = taken_form map n (slot_at map n)
 
 pub is_form : (map : Map) (o : FdOp) (new : Map) (r : FdAnswer) → dstep map o ≡ record { map = new; answer = r } → IsForm o r
-is_form map o new r e = subst (λ (p : Outcome). IsForm o p.answer) e (form map o)
+is_form map o new r e = subst (λ (p : DescriptorsOutcome). IsForm o p.answer) e (form map o)

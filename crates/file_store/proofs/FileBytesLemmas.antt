@@ -3,15 +3,15 @@ use Rattle.std.proofs.Common.{◌≡◌, ℕ, suc, ◌+◌, ◌-◌, ◌<◌, ma
 use Rattle.std.proofs.lemmas.Bool.{cases_lt}
 use Rattle.std.proofs.lemmas.Bool.Decides.{Decides-eqb}
 use Rattle.std.proofs.lemmas.List.{length-append, length-drop, length-take, length-replicate, get_or_append_left, get_or-append_right, get_or-take, get_or-drop, get_or-replicate, get_or_past}
-use Rattle.file_store.specs.FileBytes.{part, resized, overwritten, all_zero}
-use Rattle.file_store.specs.Pages.{overlaid}
+use Rattle.file_store.specs.FileBytes.{part, with_length, with_bytes_at, all_zero}
+use Rattle.file_store.specs.Pages.{overlay_byte}
 use Rattle.file_store.proofs.WriteLemmas.{overlaid_inside, overlaid_before, overlaid_after}
 
-pub length-resized : (size : ℕ) (xs : List ℕ) → length (resized size xs) ≡ size
+pub length-resized : (size : ℕ) (xs : List ℕ) → length (with_length size xs) ≡ size
 length-resized size xs =
     simp (length-append, length-replicate) (omega (arith, length-take size xs))
 
-pub resized_at : (size : ℕ) (xs : List ℕ) (k : ℕ) → k < size → get_or (resized size xs) k 0 ≡ get_or xs k 0
+pub resized_at : (size : ℕ) (xs : List ℕ) (k : ℕ) → k < size → get_or (with_length size xs) k 0 ≡ get_or xs k 0
 resized_at size xs k low =
     let front = length-take size xs in
     elim (cases_lt k (length xs)) [
@@ -23,21 +23,21 @@ resized_at size xs k low =
           ∙ sym (get_or_past xs k 0 past)
     ]
 
-pub length-overwritten : (xs : List ℕ) (at : ℕ) (new : List ℕ) → length (overwritten xs at new) ≡ max (length xs) (at + length new)
+pub length-overwritten : (xs : List ℕ) (at : ℕ) (new : List ℕ) → length (with_bytes_at xs at new) ≡ max (length xs) (at + length new)
 length-overwritten xs at new =
-    length-append (resized at xs) (new ++ drop (at + length new) xs)
+    length-append (with_length at xs) (new ++ drop (at + length new) xs)
     ∙ omega (arith, length-resized at xs, length-append new (drop (at + length new) xs), length-drop (at + length new) xs)
 
-pub overwritten_at : (xs : List ℕ) (at : ℕ) (new : List ℕ) (k : ℕ) → get_or (overwritten xs at new) k 0 ≡ overlaid (λ i. get_or xs i 0) at new k
+pub overwritten_at : (xs : List ℕ) (at : ℕ) (new : List ℕ) (k : ℕ) → get_or (with_bytes_at xs at new) k 0 ≡ overlay_byte (λ i. get_or xs i 0) at new k
 overwritten_at xs at new k =
     let front = length-resized at xs in
     let rest = drop (at + length new) xs in
     elim (cases_lt k at) [
       | inl before ↦
-          get_or_append_left (resized at xs) (new ++ rest) 0 k (omega arith) ∙ resized_at at xs k before
+          get_or_append_left (with_length at xs) (new ++ rest) 0 k (omega arith) ∙ resized_at at xs k before
           ∙ sym (overlaid_before (λ i. get_or xs i 0) at new k before)
       | inr from ↦
-          let past = get_or-append_right (resized at xs) (new ++ rest) at k 0 front from in
+          let past = get_or-append_right (with_length at xs) (new ++ rest) at k 0 front from in
           elim (cases_lt k (at + length new)) [
             | inl inside ↦ past ∙ get_or_append_left new rest 0 (k - at) (omega arith) ∙ sym (overlaid_inside (λ i. get_or xs i 0) at new k from inside)
             | inr after ↦

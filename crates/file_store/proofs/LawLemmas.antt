@@ -22,9 +22,10 @@ use Rattle.file_store.specs.declared.file_operation.Whence.{Whence}
 use Rattle.file_store.specs.declared.file_operation.FileOp.{FileOp}
 use Rattle.file_store.specs.declared.file_operation.FileOp.TheVariants as op
 use Rattle.file_store.specs.declared.file_operation.FileAnswer.TheVariants as answer
-use Rattle.file_store.specs.DescriptorMap.{Map, Outcome, stays, slot_at, is_free, is_named, lowest_free, placed, copied, copied_over, copied_to}
+use Rattle.file_store.specs.DescriptorMap.{Map, DescriptorsOutcome, outcome_of, slot_at, is_free, is_named, lowest_free, place_outcome, copy_outcome, copyto_outcome_over, copyto_outcome}
 use Rattle.file_store.specs.FileBytes.{part}
-use Rattle.file_store.specs.FileGroups.{Group, Outcome as FileOutcome, stays as file_stays, fstep, description_at, opened, with_files, moved, released, read, read_on, write, write_on, write_from, write_at, write_offset, put, put_refusal, unless_refused, seek, seek_to, seek_base, sought, natural, cut, cut_to, cut_file, cut_refusal, can_read, can_write, read_limit}
+use Rattle.wf_core.specs.Limits.{read_max}
+use Rattle.file_store.specs.FileGroups.{Group, FilesOutcome as FileOutcome, outcome_of as file_stays, fstep, description_at, open_file_at, with_files, with_offset, release_outcome, read_outcome, read_outcome_on, write_outcome, write_outcome_on, writeat_outcome_from, writeat_outcome, write_offset, with_bytes, put_refusal, unless_refused, seek_outcome, seek_outcome_to, seek_base, seek_offset, natural, cut_outcome, cut_outcome_to, with_size, cut_refusal, can_read, can_write}
 use Rattle.file_store.specs.Laws.{IsOn, is_copied}
 use Rattle.file_store.specs.Tables.{Table}
 
@@ -43,20 +44,20 @@ is_fd (fd_answer.Fd n) = true
 is_fd _ = false
 
 -- a copy, by whether a number is named and by the lowest free one
-pub copy_shares : (map : Map) (number copy : ℕ) (named : Bool) (free : Option ℕ) → is_named (slot_at map number) ≡ named → lowest_free map ≡ free → (copied map (slot_at map number)).answer ≡ fd_answer.Fd copy → (slot_at (copied map (slot_at map number)).map copy ≡ slot_at map number) × (slot_at (copied map (slot_at map number)).map number ≡ slot_at map number)
+pub copy_shares : (map : Map) (number copy : ℕ) (named : Bool) (free : Option ℕ) → is_named (slot_at map number) ≡ named → lowest_free map ≡ free → (copy_outcome map (slot_at map number)).answer ≡ fd_answer.Fd copy → (slot_at (copy_outcome map (slot_at map number)).map copy ≡ slot_at map number) × (slot_at (copy_outcome map (slot_at map number)).map number ≡ slot_at map number)
 copy_shares map number copy false free e f a =
-    absurd (false≢true (ap is_fd (sym (ap (λ (b : Bool). (cond b (placed map (slot_at map number) (lowest_free map)) (stays map (fd_answer.Fault Ebadf))).answer) e) ∙ a)))
+    absurd (false≢true (ap is_fd (sym (ap (λ (b : Bool). (cond b (place_outcome map (slot_at map number) (lowest_free map)) (outcome_of map (fd_answer.Fault Ebadf))).answer) e) ∙ a)))
 copy_shares map number copy true None e f a =
-    absurd (false≢true (ap is_fd (sym (ap (λ (b : Bool). (cond b (placed map (slot_at map number) (lowest_free map)) (stays map (fd_answer.Fault Ebadf))).answer) e ∙ ap (λ (o : Option ℕ). (placed map (slot_at map number) o).answer) f) ∙ a)))
+    absurd (false≢true (ap is_fd (sym (ap (λ (b : Bool). (cond b (place_outcome map (slot_at map number) (lowest_free map)) (outcome_of map (fd_answer.Fault Ebadf))).answer) e ∙ ap (λ (o : Option ℕ). (place_outcome map (slot_at map number) o).answer) f) ∙ a)))
 copy_shares map number copy true (Some place) e f a =
     let named = slot_at map number in
-    let done : copied map named ≡ placed map named (Some place) = ap (λ (b : Bool). cond b (placed map named (lowest_free map)) (stays map (fd_answer.Fault Ebadf))) e ∙ ap (λ (o : Option ℕ). placed map named o) f in
-    let same : place ≡ copy = ap fd_of (sym (ap (λ (o : Outcome). o.answer) done) ∙ a) in
+    let done : copy_outcome map named ≡ place_outcome map named (Some place) = ap (λ (b : Bool). cond b (place_outcome map named (lowest_free map)) (outcome_of map (fd_answer.Fault Ebadf))) e ∙ ap (λ (o : Option ℕ). place_outcome map named o) f in
+    let same : place ≡ copy = ap fd_of (sym (ap (λ (o : DescriptorsOutcome). o.answer) done) ∙ a) in
     let found = position-Some is_free map place slot.Free f in
-    let new : (copied map named).map ≡ set map place named = ap (λ (o : Outcome). o.map) done in
+    let new : (copy_outcome map named).map ≡ set map place named = ap (λ (o : DescriptorsOutcome). o.map) done in
     let apart : number ≢ place = λ same_number. false≢true (sym (ap is_named (slot_is map number ∙ ap (λ (n : ℕ). get_or map n slot.Free) same_number) ∙ not_named (get_or map place slot.Free) found.1) ∙ e) in (
-      slot_is (copied map named).map copy ∙ ap (λ (m : Map). get_or m copy slot.Free) new ∙ ap (λ (n : ℕ). get_or (set map place named) n slot.Free) (sym same) ∙ get_or-set_same map place named slot.Free found.0,
-      slot_is (copied map named).map number ∙ ap (λ (m : Map). get_or m number slot.Free) new ∙ get_or-set_other map place number named slot.Free apart ∙ sym (slot_is map number),
+      slot_is (copy_outcome map named).map copy ∙ ap (λ (m : Map). get_or m copy slot.Free) new ∙ ap (λ (n : ℕ). get_or (set map place named) n slot.Free) (sym same) ∙ get_or-set_same map place named slot.Free found.0,
+      slot_is (copy_outcome map named).map number ∙ ap (λ (m : Map). get_or m number slot.Free) new ∙ get_or-set_other map place number named slot.Free apart ∙ sym (slot_is map number),
     )
   where
     not_named : (s : Slot) → is_free s ≡ true → is_named s ≡ false
@@ -66,16 +67,16 @@ copy_shares map number copy true (Some place) e f a =
     not_named (slot.Dir k i) h = absurd (false≢true h)
 
 -- a number that took the place of another, by what that was
-copied_map : (map : Map) (target : ℕ) (named old : Slot) → is_copied (copied_over map target named old).answer ≡ true → (copied_over map target named old).map ≡ set map target named
+copied_map : (map : Map) (target : ℕ) (named old : Slot) → is_copied (copyto_outcome_over map target named old).answer ≡ true → (copyto_outcome_over map target named old).map ≡ set map target named
 copied_map map target named slot.Free done = refl
 copied_map map target named slot.Reserved done = absurd (false≢true done)
 copied_map map target named (slot.File k d) done = refl
 copied_map map target named (slot.Dir k i) done = refl
 
 -- a copy to a number, by whether the first is named and the second is one of the numbers
-pub copy_to_shares : (map : Map) (number target : ℕ) (a b : Bool) → is_named (slot_at map number) ≡ a → nat_lt target (length map) ≡ b → is_copied (copied_to map (slot_at map number) target).answer ≡ true → (slot_at (copied_to map (slot_at map number) target).map target ≡ slot_at map number) × (slot_at (copied_to map (slot_at map number) target).map number ≡ slot_at map number)
-copy_to_shares map number target false b e f done = absurd (false≢true (ap (λ (x : Bool). is_copied (cond (x && nat_lt target (length map)) (copied_over map target (slot_at map number) (slot_at map target)) (stays map (fd_answer.Fault Ebadf))).answer) (sym e) ∙ done))
-copy_to_shares map number target true false e f done = absurd (false≢true (ap (λ (x : Bool). is_copied (cond x (copied_over map target (slot_at map number) (slot_at map target)) (stays map (fd_answer.Fault Ebadf))).answer) (sym neither) ∙ done)) where
+pub copy_to_shares : (map : Map) (number target : ℕ) (a b : Bool) → is_named (slot_at map number) ≡ a → nat_lt target (length map) ≡ b → is_copied (copyto_outcome map (slot_at map number) target).answer ≡ true → (slot_at (copyto_outcome map (slot_at map number) target).map target ≡ slot_at map number) × (slot_at (copyto_outcome map (slot_at map number) target).map number ≡ slot_at map number)
+copy_to_shares map number target false b e f done = absurd (false≢true (ap (λ (x : Bool). is_copied (cond (x && nat_lt target (length map)) (copyto_outcome_over map target (slot_at map number) (slot_at map target)) (outcome_of map (fd_answer.Fault Ebadf))).answer) (sym e) ∙ done))
+copy_to_shares map number target true false e f done = absurd (false≢true (ap (λ (x : Bool). is_copied (cond x (copyto_outcome_over map target (slot_at map number) (slot_at map target)) (outcome_of map (fd_answer.Fault Ebadf))).answer) (sym neither) ∙ done)) where
   neither : (is_named (slot_at map number) && nat_lt target (length map)) ≡ false
   neither = ap (λ (x : Bool). x && nat_lt target (length map)) e ∙ f
 copy_to_shares map number target true true e f done = (at target (λ ne. absurd (ne refl)), at number (λ ne. get_or-set_other map target number named slot.Free ne ∙ sym (slot_is map number))) where
@@ -85,14 +86,14 @@ copy_to_shares map number target true true e f done = (at target (λ ne. absurd 
   both : (is_named (slot_at map number) && nat_lt target (length map)) ≡ true
   both = ap (λ (x : Bool). x && nat_lt target (length map)) e ∙ f
 
-  over : copied_to map (slot_at map number) target ≡ copied_over map target (slot_at map number) (slot_at map target)
-  over = ap (λ (x : Bool). cond x (copied_over map target (slot_at map number) (slot_at map target)) (stays map (fd_answer.Fault Ebadf))) both
+  over : copyto_outcome map (slot_at map number) target ≡ copyto_outcome_over map target (slot_at map number) (slot_at map target)
+  over = ap (λ (x : Bool). cond x (copyto_outcome_over map target (slot_at map number) (slot_at map target)) (outcome_of map (fd_answer.Fault Ebadf))) both
 
-  new : (copied_to map (slot_at map number) target).map ≡ set map target (slot_at map number)
-  new = ap (λ (o : Outcome). o.map) over ∙ copied_map map target (slot_at map number) (slot_at map target) (ap (λ (o : Outcome). is_copied o.answer) (sym over) ∙ done)
+  new : (copyto_outcome map (slot_at map number) target).map ≡ set map target (slot_at map number)
+  new = ap (λ (o : DescriptorsOutcome). o.map) over ∙ copied_map map target (slot_at map number) (slot_at map target) (ap (λ (o : DescriptorsOutcome). is_copied o.answer) (sym over) ∙ done)
 
-  at : (n : ℕ) → (n ≢ target → get_or (set map target (slot_at map number)) n slot.Free ≡ slot_at map number) → slot_at (copied_to map (slot_at map number) target).map n ≡ slot_at map number
-  at n other = slot_is (copied_to map (slot_at map number) target).map n ∙ ap (λ (m : Map). get_or m n slot.Free) new ∙ elim (cases_eq n target) [
+  at : (n : ℕ) → (n ≢ target → get_or (set map target (slot_at map number)) n slot.Free ≡ slot_at map number) → slot_at (copyto_outcome map (slot_at map number) target).map n ≡ slot_at map number
+  at n other = slot_is (copyto_outcome map (slot_at map number) target).map n ∙ ap (λ (m : Map). get_or m n slot.Free) new ∙ elim (cases_eq n target) [
     | inl same ↦ ap (λ (k : ℕ). get_or (set map target (slot_at map number)) k slot.Free) same ∙ get_or-set_same map target (slot_at map number) slot.Free (ltb-true target (length map) f)
     | inr ne ↦ other ne
   ]
@@ -138,55 +139,55 @@ module _ (group : Group) (id other : ℕ) (apart : other ≢ id) where
   abbrev Stays : FileOutcome → Type 0
   Stays o = description_at o.group other ≡ description_at group other
 
-  moved_stays : (files : Table File) (description : Description) (offset : ℕ) → description_at (moved (with_files group files) id description offset) other ≡ description_at group other
+  moved_stays : (files : Table File) (description : Description) (offset : ℕ) → description_at (with_offset (with_files group files) id description offset) other ≡ description_at group other
   moved_stays files description offset = other_set id other (record description { offset = offset }) group.descriptions.entries apart
 
-  released_stays : (found : Option Description) → Stays (released group id found)
+  released_stays : (found : Option Description) → Stays (release_outcome group id found)
   released_stays None = refl
   released_stays (Some description) = other_removed id other group.descriptions.entries apart
 
-  read_stays : (count : ℕ) (found : Option (Description × File)) → Stays (read group id count found)
+  read_stays : (count : ℕ) (found : Option (Description × File)) → Stays (read_outcome group id count found)
   read_stays count None = refl
-  read_stays count (Some o) = either Stays (can_read o.0.mode.access) (read_on group id o.0 (part o.1.bytes o.0.offset (min count read_limit))) (file_stays group (answer.Fault Ebadf)) (moved_stays group.files o.0 (o.0.offset + length (part o.1.bytes o.0.offset (min count read_limit)))) refl
+  read_stays count (Some o) = either Stays (can_read o.0.mode.access) (read_outcome_on group id o.0 (part o.1.bytes o.0.offset (min count read_max))) (file_stays group (answer.Fault Ebadf)) (moved_stays group.files o.0 (o.0.offset + length (part o.1.bytes o.0.offset (min count read_max)))) refl
 
-  write_on_stays : (description : Description) (file : File) (at : ℕ) (bytes : List ℕ) → Stays (write_on group id description file at bytes)
+  write_on_stays : (description : Description) (file : File) (at : ℕ) (bytes : List ℕ) → Stays (write_outcome_on group id description file at bytes)
   write_on_stays description file at bytes =
-      unless Stays group (put_refusal group.files description.file file at bytes) (record { group = moved (with_files group (put group.files description.file file at bytes)) id description (at + length bytes); answer = answer.Count (length bytes) }) (moved_stays (put group.files description.file file at bytes) description (at + length bytes)) (λ e. refl)
+      unless Stays group (put_refusal group.files description.file file at bytes) (record { group = with_offset (with_files group (with_bytes group.files description.file file at bytes)) id description (at + length bytes); answer = answer.Count (length bytes) }) (moved_stays (with_bytes group.files description.file file at bytes) description (at + length bytes)) (λ e. refl)
 
-  write_stays : (bytes : List ℕ) (found : Option (Description × File)) → Stays (write group id bytes found)
+  write_stays : (bytes : List ℕ) (found : Option (Description × File)) → Stays (write_outcome group id bytes found)
   write_stays bytes None = refl
   write_stays bytes (Some o) =
-      let done = write_on group id o.0 o.1 (write_offset o.0 o.1) bytes in
+      let done = write_outcome_on group id o.0 o.1 (write_offset o.0 o.1) bytes in
       either Stays (can_write o.0.mode.access) (cond (length bytes == 0) (file_stays group (answer.Count 0)) done) (file_stays group (answer.Fault Ebadf)) (either Stays (length bytes == 0) (file_stays group (answer.Count 0)) done refl (write_on_stays o.0 o.1 (write_offset o.0 o.1) bytes)) refl
 
-  write_from_stays : (file_id : ℕ) (file : File) (bytes : List ℕ) (at : Option ℕ) → Stays (write_from group file_id file bytes at)
+  write_from_stays : (file_id : ℕ) (file : File) (bytes : List ℕ) (at : Option ℕ) → Stays (writeat_outcome_from group file_id file bytes at)
   write_from_stays file_id file bytes None = refl
   write_from_stays file_id file bytes (Some at) =
-      let done : FileOutcome = record { group = with_files group (put group.files file_id file at bytes); answer = answer.Count (length bytes) } in
+      let done : FileOutcome = record { group = with_files group (with_bytes group.files file_id file at bytes); answer = answer.Count (length bytes) } in
       either Stays (length bytes == 0) (file_stays group (answer.Count 0)) (unless_refused group (put_refusal group.files file_id file at bytes) done) refl (unless Stays group (put_refusal group.files file_id file at bytes) done refl (λ e. refl))
 
-  write_at_stays : (bytes : List ℕ) (offset : ℤ) (found : Option (Description × File)) → Stays (write_at group bytes offset found)
+  write_at_stays : (bytes : List ℕ) (offset : ℤ) (found : Option (Description × File)) → Stays (writeat_outcome group bytes offset found)
   write_at_stays bytes offset None = refl
   write_at_stays bytes offset (Some o) =
-      either Stays (can_write o.0.mode.access) (write_from group o.0.file o.1 bytes (natural offset)) (file_stays group (answer.Fault Ebadf)) (write_from_stays o.0.file o.1 bytes (natural offset)) refl
+      either Stays (can_write o.0.mode.access) (writeat_outcome_from group o.0.file o.1 bytes (natural offset)) (file_stays group (answer.Fault Ebadf)) (write_from_stays o.0.file o.1 bytes (natural offset)) refl
 
-  seek_to_stays : (description : Description) (at : Result ℕ Errno) → Stays (seek_to group id description at)
+  seek_to_stays : (description : Description) (at : Result ℕ Errno) → Stays (seek_outcome_to group id description at)
   seek_to_stays description (Ok at) = moved_stays group.files description at
   seek_to_stays description (Err e) = refl
 
-  seek_stays : (offset : ℤ) (whence : Whence) (found : Option (Description × File)) → Stays (seek group id offset whence found)
+  seek_stays : (offset : ℤ) (whence : Whence) (found : Option (Description × File)) → Stays (seek_outcome group id offset whence found)
   seek_stays offset whence None = refl
-  seek_stays offset whence (Some o) = seek_to_stays o.0 (sought (natural (pos (seek_base whence o.0 o.1) +ℤ offset)))
+  seek_stays offset whence (Some o) = seek_to_stays o.0 (seek_offset (natural (pos (seek_base whence o.0 o.1) +ℤ offset)))
 
-  cut_to_stays : (file_id : ℕ) (file : File) (at : Option ℕ) → Stays (cut_to group file_id file at)
+  cut_to_stays : (file_id : ℕ) (file : File) (at : Option ℕ) → Stays (cut_outcome_to group file_id file at)
   cut_to_stays file_id file None = refl
   cut_to_stays file_id file (Some at) =
-      unless Stays group (cut_refusal group.files file_id file at) (record { group = with_files group (cut_file group.files file_id file at); answer = answer.Done }) refl (λ e. refl)
+      unless Stays group (cut_refusal group.files file_id file at) (record { group = with_files group (with_size group.files file_id file at); answer = answer.Done }) refl (λ e. refl)
 
-  cut_stays : (size : ℤ) (found : Option (Description × File)) → Stays (cut group size found)
+  cut_stays : (size : ℤ) (found : Option (Description × File)) → Stays (cut_outcome group size found)
   cut_stays size None = refl
   cut_stays size (Some o) =
-      either Stays (can_write o.0.mode.access) (cut_to group o.0.file o.1 (natural size)) (file_stays group (answer.Fault Einval)) (cut_to_stays o.0.file o.1 (natural size)) refl
+      either Stays (can_write o.0.mode.access) (cut_outcome_to group o.0.file o.1 (natural size)) (file_stays group (answer.Fault Einval)) (cut_to_stays o.0.file o.1 (natural size)) refl
 
 -- an operation on one description leaves each other one
 pub others_stay : (group : Group) (id other : ℕ) (o : FileOp) → IsOn id o → other ≢ id → description_at (fstep group o).group other ≡ description_at group other
@@ -195,10 +196,10 @@ others_stay group id other (op.Attach file mode truncate) on apart = absurd on
 others_stay group id other (op.Sizeof file) on apart = absurd on
 others_stay group id other (op.Unlinked file) on apart = absurd on
 others_stay group id other (op.Release d) on apart = released_stays group d other (λ e. apart (e ∙ on)) (description_at group d)
-others_stay group id other (op.Read d count) on apart = read_stays group d other (λ e. apart (e ∙ on)) count (opened group d)
+others_stay group id other (op.Read d count) on apart = read_stays group d other (λ e. apart (e ∙ on)) count (open_file_at group d)
 others_stay group id other (op.Readat d count offset) on apart = refl
-others_stay group id other (op.Write d bytes) on apart = write_stays group d other (λ e. apart (e ∙ on)) bytes (opened group d)
-others_stay group id other (op.Writeat d bytes offset) on apart = write_at_stays group d other (λ e. apart (e ∙ on)) bytes offset (opened group d)
-others_stay group id other (op.Seek d offset whence) on apart = seek_stays group d other (λ e. apart (e ∙ on)) offset whence (opened group d)
-others_stay group id other (op.Cut d size) on apart = cut_stays group d other (λ e. apart (e ∙ on)) size (opened group d)
+others_stay group id other (op.Write d bytes) on apart = write_stays group d other (λ e. apart (e ∙ on)) bytes (open_file_at group d)
+others_stay group id other (op.Writeat d bytes offset) on apart = write_at_stays group d other (λ e. apart (e ∙ on)) bytes offset (open_file_at group d)
+others_stay group id other (op.Seek d offset whence) on apart = seek_stays group d other (λ e. apart (e ∙ on)) offset whence (open_file_at group d)
+others_stay group id other (op.Cut d size) on apart = cut_stays group d other (λ e. apart (e ∙ on)) size (open_file_at group d)
 others_stay group id other (op.Size d) on apart = refl

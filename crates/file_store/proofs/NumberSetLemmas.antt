@@ -20,15 +20,6 @@ same_members : (words : List ℕ) (bs : List Bool) → length bs ≡ 1024 → ((
 same_members words bs e h =
     same_lists _ _ (length-members words ∙ sym e) (λ k d l. let below : k < 1024 = omega (arith, length-members words) in member_at words k d below ∙ h k d below)
 
-pub members-full : members (replicate 16 18446744073709551615) ≡ replicate 1024 true
-members-full =
-    same_members (replicate 16 18446744073709551615) (replicate 1024 true) (length-replicate 1024 true) (λ n d h.
-    let word : n / 64 < 16 = omega arith in
-    let bit : n % 64 < 64 = omega arith in
-    ap (λ (w : ℕ). bit_at w (n % 64) == 1) (get_or-replicate 16 (n / 64) 18446744073709551615 0 word)
-    ∙ ap (λ (b : ℕ). b == 1) (bit_at_ones 64 (n % 64) bit)
-    ∙ sym (get_or-replicate 1024 n true d h))
-
 -- a change of one bit of one word is a change at one number
 changed : (words : List ℕ) (n w : ℕ) (b : Bool) → length words ≡ 16 → n < 1024 → (bit_at w (n % 64) == 1) ≡ b → ((i : ℕ) → i < 64 → i ≢ n % 64 → bit_at w i ≡ bit_at (get_or words (n / 64) 0) i) → members (set words (n / 64) w) ≡ set (members words) n b
 changed words n w b len h here apart =

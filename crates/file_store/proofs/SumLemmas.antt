@@ -13,8 +13,9 @@ use Rattle.std.proofs.lemmas.Map.Entries.{sum_by-set_value, sum_by-remove_entry,
 use Rattle.wf_core.specs.declared.errno.Errno.TheVariants.{Efbig, Enospc}
 use Rattle.file_store.specs.declared.file.File.{File}
 use Rattle.file_store.specs.FileBytes.{is_page_kept, page_count}
-use Rattle.file_store.specs.Tables.{Table, row_at, rows, IsFresh, added, with_other, without}
-use Rattle.file_store.specs.FileGroups.{total, empty_file, refusal, file_limit, group_limit}
+use Rattle.file_store.specs.Tables.{Table, row_at, rows, IsFresh, with_next_row, with_row, without_row}
+use Rattle.wf_core.specs.Limits.{file_max, group_max}
+use Rattle.file_store.specs.FileGroups.{total, empty_file, refusal}
 use Rattle.file_store.specs.FileTables.{IsSummed}
 use Rattle.file_store.proofs.TableLemmas.{next_names_nothing, fresh_other, fresh_without}
 
@@ -24,24 +25,24 @@ on_err (Ok x) P p = tt
 on_err (Err e) P p = p
 
 -- the sum after one file became another
-pub total_other : (files : Table File) (id : ℕ) (old new : File) → row_at files id ≡ Some old → total (with_other files id new) + length old.bytes ≡ total files + length new.bytes
+pub total_other : (files : Table File) (id : ℕ) (old new : File) → row_at files id ≡ Some old → total (with_row files id new) + length old.bytes ≡ total files + length new.bytes
 total_other files id old new there = sum_by-set_value (λ (f : File). length f.bytes) (is_at (nat_cmp id)) files.entries old new there
 
-pub total_without : (files : Table File) (id : ℕ) (old : File) → row_at files id ≡ Some old → total (without files id) + length old.bytes ≡ total files
+pub total_without : (files : Table File) (id : ℕ) (old : File) → row_at files id ≡ Some old → total (without_row files id) + length old.bytes ≡ total files
 total_without files id old there =
-    ap (λ (o : Option File). total (without files id) + unwrap_or (option_map (λ (f : File). length f.bytes) o) 0) (sym there) ∙ sum_by-remove_entry (λ (f : File). length f.bytes) (is_at (nat_cmp id)) files.entries
+    ap (λ (o : Option File). total (without_row files id) + unwrap_or (option_map (λ (f : File). length f.bytes) o) 0) (sym there) ∙ sum_by-remove_entry (λ (f : File). length f.bytes) (is_at (nat_cmp id)) files.entries
 
-pub total_added : (files : Table File) → IsStrictlySortedBy nat_cmp (keys_of files.entries) → IsFresh files → total (added files empty_file) ≡ total files
+pub total_added : (files : Table File) → IsStrictlySortedBy nat_cmp (keys_of files.entries) → IsFresh files → total (with_next_row files empty_file) ≡ total files
 total_added files ordered fresh =
     let none = next_names_nothing files fresh in
-    let sum = ap (λ (o : Option File). total (added files empty_file) + unwrap_or (option_map (λ (f : File). length f.bytes) o) 0) (sym none) ∙ sum_by-insert_entry (λ (f : File). length f.bytes) nat_cmp_total files.entries files.next empty_file ordered in
+    let sum = ap (λ (o : Option File). total (with_next_row files empty_file) + unwrap_or (option_map (λ (f : File). length f.bytes) o) 0) (sym none) ∙ sum_by-insert_entry (λ (f : File). length f.bytes) nat_cmp_total files.entries files.next empty_file ordered in
     omega (arith, sum)
 
 -- no file is larger than all together
 pub size_within : (files : Table File) (id : ℕ) (old : File) → row_at files id ≡ Some old → length old.bytes ≤ total files
 size_within files id old there = omega (arith, total_without files id old there)
 
-pub summed_other : (files : Table File) (sum id new_sum : ℕ) (old new : File) → IsSummed files sum → row_at files id ≡ Some old → new_sum ≡ sum - length old.bytes + length new.bytes → new_sum ≤ group_limit → IsSummed (with_other files id new) new_sum
+pub summed_other : (files : Table File) (sum id new_sum : ℕ) (old new : File) → IsSummed files sum → row_at files id ≡ Some old → new_sum ≡ sum - length old.bytes + length new.bytes → new_sum ≤ group_max → IsSummed (with_row files id new) new_sum
 summed_other files sum id new_sum old new h there e within =
     record {
       sum_is = omega (arith, h.sum_is, e, total_other files id old new there, size_within files id old there);
@@ -49,7 +50,7 @@ summed_other files sum id new_sum old new h there e within =
       fresh = fresh_other files id new h.fresh;
     }
 
-pub summed_without : (files : Table File) (sum id new_sum : ℕ) (old : File) → IsSummed files sum → row_at files id ≡ Some old → new_sum ≡ sum - length old.bytes → IsSummed (without files id) new_sum
+pub summed_without : (files : Table File) (sum id new_sum : ℕ) (old : File) → IsSummed files sum → row_at files id ≡ Some old → new_sum ≡ sum - length old.bytes → IsSummed (without_row files id) new_sum
 summed_without files sum id new_sum old h there e =
     record {
       sum_is = omega (arith, h.sum_is, e, total_without files id old there);
@@ -58,26 +59,26 @@ summed_without files sum id new_sum old h there e =
     }
 
 -- the answers of the two tests of a new size
-pub refusal_end : (end : ℕ) (files : Table File) → file_limit < end → refusal end files ≡ Some Efbig
-refusal_end end files high = ap (λ (b : Bool). cond b (Some Efbig) (cond (ltb group_limit (total files)) (Some Enospc) None)) (lt-ltb file_limit end high)
+pub refusal_end : (end : ℕ) (files : Table File) → file_max < end → refusal end files ≡ Some Efbig
+refusal_end end files high = ap (λ (b : Bool). cond b (Some Efbig) (cond (ltb group_max (total files)) (Some Enospc) None)) (lt-ltb file_max end high)
 
-pub refusal_sum : (end : ℕ) (files : Table File) → end ≤ file_limit → group_limit < total files → refusal end files ≡ Some Enospc
+pub refusal_sum : (end : ℕ) (files : Table File) → end ≤ file_max → group_max < total files → refusal end files ≡ Some Enospc
 refusal_sum end files low high =
-    ap (λ (b : Bool). cond b (Some Efbig) (cond (ltb group_limit (total files)) (Some Enospc) None)) (le-ltb file_limit end low)
-    ∙ ap (λ (b : Bool). cond b (Some Enospc) None) (lt-ltb group_limit (total files) high)
+    ap (λ (b : Bool). cond b (Some Efbig) (cond (ltb group_max (total files)) (Some Enospc) None)) (le-ltb file_max end low)
+    ∙ ap (λ (b : Bool). cond b (Some Enospc) None) (lt-ltb group_max (total files) high)
 
-pub refusal_none : (end : ℕ) (files : Table File) → end ≤ file_limit → total files ≤ group_limit → refusal end files ≡ None
+pub refusal_none : (end : ℕ) (files : Table File) → end ≤ file_max → total files ≤ group_max → refusal end files ≡ None
 refusal_none end files low within =
-    ap (λ (b : Bool). cond b (Some Efbig) (cond (ltb group_limit (total files)) (Some Enospc) None)) (le-ltb file_limit end low)
-    ∙ ap (λ (b : Bool). cond b (Some Enospc) None) (le-ltb group_limit (total files) within)
+    ap (λ (b : Bool). cond b (Some Efbig) (cond (ltb group_max (total files)) (Some Enospc) None)) (le-ltb file_max end low)
+    ∙ ap (λ (b : Bool). cond b (Some Enospc) None) (le-ltb group_max (total files) within)
 
 -- what is not refused is within the limits
-pub not_refused : (end : ℕ) (files : Table File) → refusal end files ≡ None → (end ≤ file_limit) × (total files ≤ group_limit)
+pub not_refused : (end : ℕ) (files : Table File) → refusal end files ≡ None → (end ≤ file_max) × (total files ≤ group_max)
 not_refused end files none =
-    elim (cases_lt file_limit end) [
+    elim (cases_lt file_max end) [
       | inl high ↦ absurd (false≢true (ap is_some (sym none) ∙ ap is_some (refusal_end end files high)))
       | inr low ↦
-          elim (cases_lt group_limit (total files)) [
+          elim (cases_lt group_max (total files)) [
             | inl over ↦ absurd (false≢true (ap is_some (sym none) ∙ ap is_some (refusal_sum end files low over)))
             | inr within ↦ (low, within)
           ]
@@ -88,7 +89,7 @@ page_count_within bytes =
     omega (arith, count_by-le-length (is_page_kept bytes) (range_with_len 0 ((length bytes + 4095) / 4096)), length-range_with_len 0 ((length bytes + 4095) / 4096))
 
 -- the pages of some of the files are no more than the bytes of all
-pub pages_within : (files : Table File) (sum : ℕ) (before rest : List File) (file : File) → IsSummed files sum → rows files ≡ before ++ file ∷ rest → sum_by (λ (f : File). page_count f.bytes) before + page_count file.bytes ≤ group_limit
+pub pages_within : (files : Table File) (sum : ℕ) (before rest : List File) (file : File) → IsSummed files sum → rows files ≡ before ++ file ∷ rest → sum_by (λ (f : File). page_count f.bytes) before + page_count file.bytes ≤ group_max
 pages_within files sum before rest file h e =
     let pages : File → ℕ = λ (f : File). page_count f.bytes in
     let all = ap (λ (fs : List File). sum_by pages fs) e ∙ sum_by-append pages before (file ∷ rest) in

@@ -10,7 +10,7 @@ use Rattle.std.proofs.lemmas.Bool.Decides.{nat_tests}
 use Rattle.std.specs.List.{list_any}
 use Rattle.std.proofs.lemmas.Map.{keys-set_value}
 use Rattle.std.proofs.lemmas.Map.Made.{is_some-lookup}
-use Rattle.file_store.specs.Tables.{Table, row_at, IsFresh, added, with_other, without}
+use Rattle.file_store.specs.Tables.{Table, row_at, IsFresh, with_next_row, with_row, without_row}
 
 same_key : (k : ℕ) → is_at (nat_cmp k) k ≡ true
 same_key k = grind (arith, nat_tests)
@@ -36,14 +36,14 @@ module _ {X : Type 0} where
     by_cases None e = refl
     by_cases (Some x) e = absurd (omega (arith, fresh table.next (ap is_some e)))
 
-  pub undone : (table : Table X) (id : ℕ) (before : Table X) (x : X) → IsFresh before → id ≡ before.next → table ≡ added before x → remove_entry (is_at (nat_cmp id)) table.entries ≡ before.entries
+  pub undone : (table : Table X) (id : ℕ) (before : Table X) (x : X) → IsFresh before → id ≡ before.next → table ≡ with_next_row before x → remove_entry (is_at (nat_cmp id)) table.entries ≡ before.entries
   undone table id before x fresh e added_to =
       ap (λ (k : ℕ). remove_entry (is_at (nat_cmp k)) table.entries) e
       ∙ ap (λ (t : Table X). remove_entry (is_at (nat_cmp before.next)) t.entries) added_to
       ∙ removed_added before.entries before.next x (next_names_nothing before fresh)
 
   -- a change of what an id names keeps which ids name something
-  pub fresh_other : (table : Table X) (id : ℕ) (x : X) → IsFresh table → IsFresh (with_other table id x)
+  pub fresh_other : (table : Table X) (id : ℕ) (x : X) → IsFresh table → IsFresh (with_row table id x)
   fresh_other table id x fresh q some =
       fresh q (is_some-lookup (is_at (nat_cmp q)) table.entries
       ∙ ap (λ (ks : List ℕ). list_any (is_at (nat_cmp q)) ks) (sym (keys-set_value (is_at (nat_cmp id)) table.entries x))
@@ -60,7 +60,7 @@ module _ {X : Type 0} where
   still_there test q [] some = some
   still_there test q (e ∷ es) some = still_first test q e es (still_there test q es) (test e.0) (is_at (nat_cmp q) e.0) refl refl some
 
-  pub fresh_without : (table : Table X) (id : ℕ) → IsFresh table → IsFresh (without table id)
+  pub fresh_without : (table : Table X) (id : ℕ) → IsFresh table → IsFresh (without_row table id)
   fresh_without table id fresh q some = fresh q (still_there (is_at (nat_cmp id)) q table.entries some)
 
   -- one more entry

@@ -4,33 +4,26 @@ use Rattle.std.proofs.lemmas.Bool.{cases_lt, cases_eq, false≢true}
 use Rattle.std.proofs.lemmas.Bool.Decides.{nat_tests, Decides-eqb}
 use Rattle.std.proofs.lemmas.List.{length-append, length-take-le, get_or_append_left, get_or-append_right, get_or-take, get_or-drop}
 use Rattle.file_store.specs.FileBytes.{all_zero}
-use Rattle.file_store.specs.Pages.{PageEntries, kept_page, page_at, byte_at, zero_page, overlaid, AreWhole, Touches, AreReadyFor}
+use Rattle.file_store.specs.Pages.{PageEntries, kept_page, page_at, byte_at, zero_page, overlay_byte, AreWhole, Touches, AreReadyFor}
 
 -- what stands under new bytes and outside of them
-pub overlaid_inside : (f : ℕ → ℕ) (at : ℕ) (new : List ℕ) (i : ℕ) → at ≤ i → i < at + length new → overlaid f at new i ≡ get_or new (i - at) 0
+pub overlaid_inside : (f : ℕ → ℕ) (at : ℕ) (new : List ℕ) (i : ℕ) → at ≤ i → i < at + length new → overlay_byte f at new i ≡ get_or new (i - at) 0
 overlaid_inside f at new i low high =
     let inside : (leb at i && ltb i (at + length new)) ≡ true = grind (arith, nat_tests) in
     ap (λ (b : Bool). cond b (get_or new (i - at) 0) (f i)) inside
 
-pub overlaid_before : (f : ℕ → ℕ) (at : ℕ) (new : List ℕ) (i : ℕ) → i < at → overlaid f at new i ≡ f i
+pub overlaid_before : (f : ℕ → ℕ) (at : ℕ) (new : List ℕ) (i : ℕ) → i < at → overlay_byte f at new i ≡ f i
 overlaid_before f at new i low =
     let outside : (leb at i && ltb i (at + length new)) ≡ false = grind (arith, nat_tests) in
     ap (λ (b : Bool). cond b (get_or new (i - at) 0) (f i)) outside
 
-pub overlaid_after : (f : ℕ → ℕ) (at : ℕ) (new : List ℕ) (i : ℕ) → at + length new ≤ i → overlaid f at new i ≡ f i
+pub overlaid_after : (f : ℕ → ℕ) (at : ℕ) (new : List ℕ) (i : ℕ) → at + length new ≤ i → overlay_byte f at new i ≡ f i
 overlaid_after f at new i high =
     let outside : (leb at i && ltb i (at + length new)) ≡ false = grind (arith, nat_tests) in
     ap (λ (b : Bool). cond b (get_or new (i - at) 0) (f i)) outside
 
-pub overlaid_nil : (f : ℕ → ℕ) (at i : ℕ) → overlaid f at [] i ≡ f i
-overlaid_nil f at i =
-    elim (cases_lt i at) [
-      | inl low ↦ overlaid_before f at [] i low
-      | inr high ↦ overlaid_after f at [] i (omega arith)
-    ]
-
 -- bytes that are written in two pieces
-pub overlaid_append : (f g : ℕ → ℕ) (at : ℕ) (xs ys : List ℕ) → ((i : ℕ) → g i ≡ overlaid f at xs i) → (i : ℕ) → overlaid g (at + length xs) ys i ≡ overlaid f at (xs ++ ys) i
+pub overlaid_append : (f g : ℕ → ℕ) (at : ℕ) (xs ys : List ℕ) → ((i : ℕ) → g i ≡ overlay_byte f at xs i) → (i : ℕ) → overlay_byte g (at + length xs) ys i ≡ overlay_byte f at (xs ++ ys) i
 overlaid_append f g at xs ys first i =
     let total = length-append xs ys in
     elim (cases_lt i at) [
@@ -83,7 +76,7 @@ module _ (old new : PageEntries) (at : ℕ) (piece : List ℕ) (whole : AreWhole
   page_elsewhere : (k : ℕ) → k ≢ at / 4096 → page_at new k ≡ page_at old k
   page_elsewhere k other = ap (λ (o : Option (List ℕ)). unwrap_or o zero_page) (others k other)
 
-  pub piece_written : (i : ℕ) → byte_at new i ≡ overlaid (byte_at old) at piece i
+  pub piece_written : (i : ℕ) → byte_at new i ≡ overlay_byte (byte_at old) at piece i
   piece_written i =
       let front = length-take-le (at % 4096) (page_at old (at / 4096)) (omega (arith, whole (at / 4096))) in
       elim (cases_eq (i / 4096) (at / 4096)) [

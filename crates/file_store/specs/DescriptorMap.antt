@@ -1,9 +1,10 @@
--- File descriptors: what each number from 0 to 1,023 names, and what each operation answers and leaves.
+-- File descriptors: what each number below `open_max` names, and what each operation answers and leaves.
 -- After POSIX.1-2017, XSH open() and dup() (the lowest number that is free), dup2() and close(), where a
 -- description ends with its last number. `EBUSY` for a number that an unfinished open() has reserved, and
 -- the steps into which those calls are cut, are this project's own.
 use Rattle.std.specs.Prelude.{◌≡◌, ◌⊎◌, ℕ, ◌==◌, Bool, true, false, ◌&&◌, List, length, replicate, Option, None, Some, unwrap_or, slice_get, slice_set, position, nat_lt, if◌then◌else◌}
 use Rattle.std.specs.List.{list_any}
+use Rattle.wf_core.specs.Limits.{open_max}
 use Rattle.wf_core.specs.declared.errno.Errno.TheVariants.{Ebadf, Emfile, Ebusy}
 use Rattle.file_store.specs.declared.descriptor_operation.Slot.{Slot}
 use Rattle.file_store.specs.declared.descriptor_operation.Slot.TheVariants as slot
@@ -16,9 +17,9 @@ use Rattle.file_store.specs.declared.descriptor_operation.FdAnswer.TheVariants a
 abbrev pub Map : Type 0
 Map = List Slot
 
--- the first map: 1,024 numbers, all free
+-- the first map: each number is free
 abbrev pub opening : Map
-opening = replicate 1024 slot.Free
+opening = replicate open_max slot.Free
 
 -- what a number is. One that the map does not have names nothing, as a free one
 abbrev pub slot_at : Map → ℕ → Slot
@@ -55,71 +56,71 @@ abbrev pub lowest_free : Map → Option ℕ
 lowest_free map = position is_free map
 
 -- some number names that description
-abbrev pub is_open : ℕ → ℕ → Map → Bool
-is_open backend description map = list_any (is_number_of backend description) map
+abbrev pub is_description_open : ℕ → ℕ → Map → Bool
+is_description_open backend description map = list_any (is_number_of backend description) map
 
 -- what an operation answers, and the map that it leaves
-pub record Outcome : Type 0 where
+pub record DescriptorsOutcome : Type 0 where
   pub map : Map
   pub answer : FdAnswer
 
-abbrev pub stays : Map → FdAnswer → Outcome
-stays map answer = record { map = map; answer = answer }
+abbrev pub outcome_of : Map → FdAnswer → DescriptorsOutcome
+outcome_of map answer = record { map = map; answer = answer }
 
-abbrev pub changed : Map → ℕ → Slot → FdAnswer → Outcome
-changed map number new answer = record { map = slice_set map number new; answer = answer }
+abbrev pub outcome_with : Map → ℕ → Slot → FdAnswer → DescriptorsOutcome
+outcome_with map number new answer = record { map = slice_set map number new; answer = answer }
 
 -- the lowest free number, if there is one, becomes what is asked
-abbrev pub placed : Map → Slot → Option ℕ → Outcome
-placed map new None = stays map (answer.Fault Emfile)
-placed map new (Some number) = changed map number new (answer.Fd number)
+abbrev pub place_outcome : Map → Slot → Option ℕ → DescriptorsOutcome
+place_outcome map new None = outcome_of map (answer.Fault Emfile)
+place_outcome map new (Some number) = outcome_with map number new (answer.Fd number)
 
 -- only a reserved number changes
-abbrev pub settled : Map → ℕ → Slot → Slot → Outcome
-settled map number new old = if is_reserved old then changed map number new answer.Done else stays map answer.Done
+abbrev pub fill_outcome : Map → ℕ → Slot → Slot → DescriptorsOutcome
+fill_outcome map number new old = if is_reserved old then outcome_with map number new answer.Done else outcome_of map answer.Done
 
-abbrev pub looked_up : Slot → FdAnswer
-looked_up slot.Free = answer.Fault Ebadf
-looked_up slot.Reserved = answer.Fault Ebadf
-looked_up (slot.File backend description) = answer.File backend description
-looked_up (slot.Dir backend id) = answer.Dir backend id
+abbrev pub look_answer : Slot → FdAnswer
+look_answer slot.Free = answer.Fault Ebadf
+look_answer slot.Reserved = answer.Fault Ebadf
+look_answer (slot.File backend description) = answer.File backend description
+look_answer (slot.Dir backend id) = answer.Dir backend id
 
-abbrev pub copied : Map → Slot → Outcome
-copied map named = if is_named named then placed map named (lowest_free map) else stays map (answer.Fault Ebadf)
+abbrev pub copy_outcome : Map → Slot → DescriptorsOutcome
+copy_outcome map named = if is_named named then place_outcome map named (lowest_free map) else outcome_of map (answer.Fault Ebadf)
 
 -- a number that named a description names something else, and the answer tells whether it was the last one
-abbrev pub copied_last : Map → ℕ → ℕ → ℕ → Outcome
-copied_last new number backend description = record { map = new; answer = if is_open backend description new then answer.Fd number else answer.FdLast number backend description }
+abbrev pub copyto_outcome_last : Map → ℕ → ℕ → ℕ → DescriptorsOutcome
+copyto_outcome_last new number backend description = record { map = new; answer = if is_description_open backend description new then answer.Fd number else answer.FdLast number backend description }
 
-abbrev pub copied_over : Map → ℕ → Slot → Slot → Outcome
-copied_over map number new slot.Free = changed map number new (answer.Fd number)
-copied_over map number new slot.Reserved = stays map (answer.Fault Ebusy)
-copied_over map number new (slot.File backend description) = copied_last (slice_set map number new) number backend description
-copied_over map number new (slot.Dir backend id) = changed map number new (answer.Fd number)
+abbrev pub copyto_outcome_over : Map → ℕ → Slot → Slot → DescriptorsOutcome
+copyto_outcome_over map number new slot.Free = outcome_with map number new (answer.Fd number)
+copyto_outcome_over map number new slot.Reserved = outcome_of map (answer.Fault Ebusy)
+copyto_outcome_over map number new (slot.File backend description) = copyto_outcome_last (slice_set map number new) number backend description
+copyto_outcome_over map number new (slot.Dir backend id) = outcome_with map number new (answer.Fd number)
 
-abbrev pub copied_to : Map → Slot → ℕ → Outcome
-copied_to map named number = if is_named named && nat_lt number (length map) then copied_over map number named (slot_at map number) else stays map (answer.Fault Ebadf)
+abbrev pub copyto_outcome : Map → Slot → ℕ → DescriptorsOutcome
+copyto_outcome map named number = if is_named named && nat_lt number (length map) then copyto_outcome_over map number named (slot_at map number) else outcome_of map (answer.Fault Ebadf)
 
 -- a number that named a description is free, and the answer tells whether it was the last one
-abbrev pub taken_last : Map → ℕ → ℕ → Outcome
-taken_last new backend description = record { map = new; answer = if is_open backend description new then answer.Done else answer.Last backend description }
+abbrev pub take_outcome_last : Map → ℕ → ℕ → DescriptorsOutcome
+take_outcome_last new backend description = record { map = new; answer = if is_description_open backend description new then answer.Done else answer.Last backend description }
 
-abbrev pub taken : Map → ℕ → Slot → Outcome
-taken map number slot.Free = stays map (answer.Fault Ebadf)
-taken map number slot.Reserved = stays map (answer.Fault Ebadf)
-taken map number (slot.File backend description) = taken_last (slice_set map number slot.Free) backend description
-taken map number (slot.Dir backend id) = changed map number slot.Free answer.Done
+abbrev pub take_outcome : Map → ℕ → Slot → DescriptorsOutcome
+take_outcome map number slot.Free = outcome_of map (answer.Fault Ebadf)
+take_outcome map number slot.Reserved = outcome_of map (answer.Fault Ebadf)
+take_outcome map number (slot.File backend description) = take_outcome_last (slice_set map number slot.Free) backend description
+take_outcome map number (slot.Dir backend id) = outcome_with map number slot.Free answer.Done
 
 -- each operation on a map
-abbrev pub dstep : Map → FdOp → Outcome
-dstep map op.Reserve = placed map slot.Reserved (lowest_free map)
-dstep map (op.FillFile number backend description) = settled map number (slot.File backend description) (slot_at map number)
-dstep map (op.FillDir number backend id) = settled map number (slot.Dir backend id) (slot_at map number)
-dstep map (op.Drop number) = settled map number slot.Free (slot_at map number)
-dstep map (op.Look number) = stays map (looked_up (slot_at map number))
-dstep map (op.Copy number) = copied map (slot_at map number)
-dstep map (op.Copyto number target) = copied_to map (slot_at map number) target
-dstep map (op.Take number) = taken map number (slot_at map number)
+abbrev pub dstep : Map → FdOp → DescriptorsOutcome
+dstep map op.Reserve = place_outcome map slot.Reserved (lowest_free map)
+dstep map (op.FillFile number backend description) = fill_outcome map number (slot.File backend description) (slot_at map number)
+dstep map (op.FillDir number backend id) = fill_outcome map number (slot.Dir backend id) (slot_at map number)
+dstep map (op.Drop number) = fill_outcome map number slot.Free (slot_at map number)
+dstep map (op.Look number) = outcome_of map (look_answer (slot_at map number))
+dstep map (op.Copy number) = copy_outcome map (slot_at map number)
+dstep map (op.Copyto number target) = copyto_outcome map (slot_at map number) target
+dstep map (op.Take number) = take_outcome map number (slot_at map number)
 
 -- the forms of answer that each operation has
 abbrev pub IsForm : FdOp → FdAnswer → Type 0

@@ -5,6 +5,7 @@
 -- not there is `EBADF`, and that `pwrite()` writes at its offset under `append` too, are this project's own.
 use Rattle.std.specs.Prelude.{◌≡◌, ◌⊎◌, ℕ, ◌+◌, ◌==◌, Bool, true, false, ◌||◌, nat_lt, min, List, [], length, Option, None, Some, Result, Ok, Err, ℤ, pos, negsuc, ◌+ℤ◌, sum_by, if◌then◌else◌}
 use Rattle.std.specs.List.{list_any}
+use Rattle.wf_core.specs.Limits.{file_max, group_max, offset_max, read_max}
 use Rattle.wf_core.specs.declared.errno.Errno.{Errno}
 use Rattle.wf_core.specs.declared.errno.Errno.TheVariants.{Ebadf, Einval, Efbig, Enospc, Eoverflow}
 use Rattle.file_store.specs.declared.file_operation.Access.{Access}
@@ -18,26 +19,13 @@ use Rattle.file_store.specs.declared.file_operation.FileAnswer.{FileAnswer}
 use Rattle.file_store.specs.declared.file_operation.FileAnswer.TheVariants as answer
 use Rattle.file_store.specs.declared.file.File.{File}
 use Rattle.file_store.specs.declared.file.Description.{Description}
-use Rattle.file_store.specs.FileBytes.{part, resized, overwritten, page_count}
-use Rattle.file_store.specs.Tables.{Table, empty_from, row_at, rows, added, with_other, without}
+use Rattle.file_store.specs.FileBytes.{part, with_length, with_bytes_at, page_count}
+use Rattle.file_store.specs.Tables.{Table, empty_from, row_at, rows, with_next_row, with_row, without_row}
 
 -- a group: its files and its descriptions, by their ids
 pub record Group : Type 0 where
   pub files : Table File
   pub descriptions : Table Description
-
--- the greatest size of a file and of all files of a group, the most bytes of one read, and the greatest offset
-abbrev pub file_limit : ℕ
-file_limit = 16777216
-
-abbrev pub group_limit : ℕ
-group_limit = 67108864
-
-abbrev pub read_limit : ℕ
-read_limit = 4096
-
-abbrev pub offset_limit : ℕ
-offset_limit = 1099511627776
 
 -- group g without files. Its ids are g, g + 4, g + 8 and so on, and none is used again
 abbrev pub opening : ℕ → Group
@@ -50,17 +38,17 @@ abbrev pub description_at : Group → ℕ → Option Description
 description_at group id = row_at group.descriptions id
 
 -- the file of a description
-abbrev pub with_file : Option File → Description → Option (Description × File)
-with_file None description = None
-with_file (Some file) description = Some (description, file)
+abbrev pub open_file_with : Option File → Description → Option (Description × File)
+open_file_with None description = None
+open_file_with (Some file) description = Some (description, file)
 
-abbrev pub opened_by : Group → Option Description → Option (Description × File)
-opened_by group None = None
-opened_by group (Some description) = with_file (file_at group description.file) description
+abbrev pub open_file_of : Group → Option Description → Option (Description × File)
+open_file_of group None = None
+open_file_of group (Some description) = open_file_with (file_at group description.file) description
 
 -- a description with its file
-abbrev pub opened : Group → ℕ → Option (Description × File)
-opened group id = opened_by group (description_at group id)
+abbrev pub open_file_at : Group → ℕ → Option (Description × File)
+open_file_at group id = open_file_of group (description_at group id)
 
 -- some description is of that file
 abbrev pub is_open : Table Description → ℕ → Bool
@@ -90,114 +78,114 @@ natural (pos n) = Some n
 natural (negsuc n) = None
 
 -- what an operation answers, and the group that it leaves
-pub record Outcome : Type 0 where
+pub record FilesOutcome : Type 0 where
   pub group : Group
   pub answer : FileAnswer
 
-abbrev pub stays : Group → FileAnswer → Outcome
-stays group answer = record { group = group; answer = answer }
+abbrev pub outcome_of : Group → FileAnswer → FilesOutcome
+outcome_of group answer = record { group = group; answer = answer }
 
 -- the group with other files
 abbrev pub with_files : Group → Table File → Group
 with_files group files = record group { files = files }
 
 -- the group in which a description is at another offset
-abbrev pub moved : Group → ℕ → Description → ℕ → Group
-moved group id description offset = record group { descriptions = with_other group.descriptions id (record description { offset = offset }) }
+abbrev pub with_offset : Group → ℕ → Description → ℕ → Group
+with_offset group id description offset = record group { descriptions = with_row group.descriptions id (record description { offset = offset }) }
 
 -- the group with one more description, at offset 0
-abbrev pub described : Group → ℕ → Mode → Group
-described group file mode = record group { descriptions = added group.descriptions (record { file = file; mode = mode; offset = 0 }) }
+abbrev pub with_description : Group → ℕ → Mode → Group
+with_description group file mode = record group { descriptions = with_next_row group.descriptions (record { file = file; mode = mode; offset = 0 }) }
 
 abbrev pub empty_file : File
 empty_file = record { bytes = []; linked = true }
 
 -- why a file may not have that end, in the files that would be left
 abbrev pub refusal : ℕ → Table File → Option Errno
-refusal end files = if nat_lt file_limit end then Some Efbig else (if nat_lt group_limit (total files) then Some Enospc else None)
+refusal end files = if nat_lt file_max end then Some Efbig else (if nat_lt group_max (total files) then Some Enospc else None)
 
 -- what would be done is done, unless it is refused
-abbrev pub unless_refused : Group → Option Errno → Outcome → Outcome
+abbrev pub unless_refused : Group → Option Errno → FilesOutcome → FilesOutcome
 unless_refused group None done = done
-unless_refused group (Some error) done = stays group (answer.Fault error)
+unless_refused group (Some error) done = outcome_of group (answer.Fault error)
 
-abbrev pub made : Group → Mode → Outcome
-made group mode = record { group = described (with_files group (added group.files empty_file)) group.files.next mode; answer = answer.File group.files.next group.descriptions.next }
+abbrev pub make_outcome : Group → Mode → FilesOutcome
+make_outcome group mode = record { group = with_description (with_files group (with_next_row group.files empty_file)) group.files.next mode; answer = answer.File group.files.next group.descriptions.next }
 
 -- a file whose contents are cut to nothing where that is asked
-abbrev pub emptied : Table File → ℕ → File → Bool → Table File
-emptied files id file false = files
-emptied files id file true = with_other files id (record file { bytes = [] })
+abbrev pub files_after_truncation : Table File → ℕ → File → Bool → Table File
+files_after_truncation files id file false = files
+files_after_truncation files id file true = with_row files id (record file { bytes = [] })
 
-abbrev pub attached : Group → ℕ → Mode → Bool → Option File → Outcome
-attached group id mode truncate None = stays group answer.Gone
-attached group id mode truncate (Some file) = if file.linked then (record { group = described (with_files group (emptied group.files id file truncate)) id mode; answer = answer.Desc group.descriptions.next }) else stays group answer.Gone
+abbrev pub attach_outcome : Group → ℕ → Mode → Bool → Option File → FilesOutcome
+attach_outcome group id mode truncate None = outcome_of group answer.Gone
+attach_outcome group id mode truncate (Some file) = if file.linked then (record { group = with_description (with_files group (files_after_truncation group.files id file truncate)) id mode; answer = answer.Desc group.descriptions.next }) else outcome_of group answer.Gone
 
-abbrev pub linked_size : Option File → FileAnswer
-linked_size None = answer.Gone
-linked_size (Some file) = if file.linked then answer.Size (length file.bytes) else answer.Gone
+abbrev pub sizeof_answer : Option File → FileAnswer
+sizeof_answer None = answer.Gone
+sizeof_answer (Some file) = if file.linked then answer.Size (length file.bytes) else answer.Gone
 
 -- the files of which one is no longer linked. Without a description it is gone at once
-abbrev pub unlinked : Table File → Bool → ℕ → Option File → Table File
-unlinked files in_use id None = files
-unlinked files in_use id (Some file) = if in_use then with_other files id (record file { linked = false }) else without files id
+abbrev pub files_after_unlink : Table File → Bool → ℕ → Option File → Table File
+files_after_unlink files in_use id None = files
+files_after_unlink files in_use id (Some file) = if in_use then with_row files id (record file { linked = false }) else without_row files id
 
 -- the files without one that is neither linked nor open
-abbrev pub swept : Table File → Bool → ℕ → Option File → Table File
-swept files in_use id None = files
-swept files in_use id (Some file) = if file.linked || in_use then files else without files id
+abbrev pub files_after_sweep : Table File → Bool → ℕ → Option File → Table File
+files_after_sweep files in_use id None = files
+files_after_sweep files in_use id (Some file) = if file.linked || in_use then files else without_row files id
 
 -- the group without a description, and without its file where that was only kept for it
-abbrev pub closed : Group → Table Description → ℕ → Group
-closed group left id = record { files = swept group.files (is_open left id) id (file_at group id); descriptions = left }
+abbrev pub group_after_release : Group → Table Description → ℕ → Group
+group_after_release group left id = record { files = files_after_sweep group.files (is_open left id) id (file_at group id); descriptions = left }
 
-abbrev pub released : Group → ℕ → Option Description → Outcome
-released group id None = stays group (answer.Fault Ebadf)
-released group id (Some description) = record { group = closed group (without group.descriptions id) description.file; answer = answer.Done }
+abbrev pub release_outcome : Group → ℕ → Option Description → FilesOutcome
+release_outcome group id None = outcome_of group (answer.Fault Ebadf)
+release_outcome group id (Some description) = record { group = group_after_release group (without_row group.descriptions id) description.file; answer = answer.Done }
 
 -- the bytes that were read, with the offset moved on behind them
-abbrev pub read_on : Group → ℕ → Description → List ℕ → Outcome
-read_on group id description bytes = record { group = moved group id description (description.offset + length bytes); answer = answer.Bytes bytes }
+abbrev pub read_outcome_on : Group → ℕ → Description → List ℕ → FilesOutcome
+read_outcome_on group id description bytes = record { group = with_offset group id description (description.offset + length bytes); answer = answer.Bytes bytes }
 
-abbrev pub read : Group → ℕ → ℕ → Option (Description × File) → Outcome
-read group id count None = stays group (answer.Fault Ebadf)
-read group id count (Some o) = if can_read o.0.mode.access then read_on group id o.0 (part o.1.bytes o.0.offset (min count read_limit)) else stays group (answer.Fault Ebadf)
+abbrev pub read_outcome : Group → ℕ → ℕ → Option (Description × File) → FilesOutcome
+read_outcome group id count None = outcome_of group (answer.Fault Ebadf)
+read_outcome group id count (Some o) = if can_read o.0.mode.access then read_outcome_on group id o.0 (part o.1.bytes o.0.offset (min count read_max)) else outcome_of group (answer.Fault Ebadf)
 
-abbrev pub bytes_from : File → ℕ → Option ℕ → FileAnswer
-bytes_from file count None = answer.Fault Einval
-bytes_from file count (Some offset) = answer.Bytes (part file.bytes offset (min count read_limit))
+abbrev pub readat_answer_from : File → ℕ → Option ℕ → FileAnswer
+readat_answer_from file count None = answer.Fault Einval
+readat_answer_from file count (Some offset) = answer.Bytes (part file.bytes offset (min count read_max))
 
-abbrev pub read_at : ℕ → ℤ → Option (Description × File) → FileAnswer
-read_at count offset None = answer.Fault Ebadf
-read_at count offset (Some o) = if can_read o.0.mode.access then bytes_from o.1 count (natural offset) else answer.Fault Ebadf
+abbrev pub readat_answer : ℕ → ℤ → Option (Description × File) → FileAnswer
+readat_answer count offset None = answer.Fault Ebadf
+readat_answer count offset (Some o) = if can_read o.0.mode.access then readat_answer_from o.1 count (natural offset) else answer.Fault Ebadf
 
 -- the files into one of which bytes were written
-abbrev pub put : Table File → ℕ → File → ℕ → List ℕ → Table File
-put files id file at bytes = with_other files id (record file { bytes = overwritten file.bytes at bytes })
+abbrev pub with_bytes : Table File → ℕ → File → ℕ → List ℕ → Table File
+with_bytes files id file at bytes = with_row files id (record file { bytes = with_bytes_at file.bytes at bytes })
 
 -- why bytes may not be written into a file
 abbrev pub put_refusal : Table File → ℕ → File → ℕ → List ℕ → Option Errno
-put_refusal files id file at bytes = refusal (at + length bytes) (put files id file at bytes)
+put_refusal files id file at bytes = refusal (at + length bytes) (with_bytes files id file at bytes)
 
 -- where a description writes
 abbrev pub write_offset : Description → File → ℕ
 write_offset description file = if description.mode.append then length file.bytes else description.offset
 
 -- bytes written by a description, which is then at their end
-abbrev pub write_on : Group → ℕ → Description → File → ℕ → List ℕ → Outcome
-write_on group id description file at bytes = unless_refused group (put_refusal group.files description.file file at bytes) (record { group = moved (with_files group (put group.files description.file file at bytes)) id description (at + length bytes); answer = answer.Count (length bytes) })
+abbrev pub write_outcome_on : Group → ℕ → Description → File → ℕ → List ℕ → FilesOutcome
+write_outcome_on group id description file at bytes = unless_refused group (put_refusal group.files description.file file at bytes) (record { group = with_offset (with_files group (with_bytes group.files description.file file at bytes)) id description (at + length bytes); answer = answer.Count (length bytes) })
 
-abbrev pub write : Group → ℕ → List ℕ → Option (Description × File) → Outcome
-write group id bytes None = stays group (answer.Fault Ebadf)
-write group id bytes (Some o) = if can_write o.0.mode.access then (if length bytes == 0 then stays group (answer.Count 0) else write_on group id o.0 o.1 (write_offset o.0 o.1) bytes) else stays group (answer.Fault Ebadf)
+abbrev pub write_outcome : Group → ℕ → List ℕ → Option (Description × File) → FilesOutcome
+write_outcome group id bytes None = outcome_of group (answer.Fault Ebadf)
+write_outcome group id bytes (Some o) = if can_write o.0.mode.access then (if length bytes == 0 then outcome_of group (answer.Count 0) else write_outcome_on group id o.0 o.1 (write_offset o.0 o.1) bytes) else outcome_of group (answer.Fault Ebadf)
 
-abbrev pub write_from : Group → ℕ → File → List ℕ → Option ℕ → Outcome
-write_from group file_id file bytes None = stays group (answer.Fault Einval)
-write_from group file_id file bytes (Some at) = if length bytes == 0 then stays group (answer.Count 0) else unless_refused group (put_refusal group.files file_id file at bytes) (record { group = with_files group (put group.files file_id file at bytes); answer = answer.Count (length bytes) })
+abbrev pub writeat_outcome_from : Group → ℕ → File → List ℕ → Option ℕ → FilesOutcome
+writeat_outcome_from group file_id file bytes None = outcome_of group (answer.Fault Einval)
+writeat_outcome_from group file_id file bytes (Some at) = if length bytes == 0 then outcome_of group (answer.Count 0) else unless_refused group (put_refusal group.files file_id file at bytes) (record { group = with_files group (with_bytes group.files file_id file at bytes); answer = answer.Count (length bytes) })
 
-abbrev pub write_at : Group → List ℕ → ℤ → Option (Description × File) → Outcome
-write_at group bytes offset None = stays group (answer.Fault Ebadf)
-write_at group bytes offset (Some o) = if can_write o.0.mode.access then write_from group o.0.file o.1 bytes (natural offset) else stays group (answer.Fault Ebadf)
+abbrev pub writeat_outcome : Group → List ℕ → ℤ → Option (Description × File) → FilesOutcome
+writeat_outcome group bytes offset None = outcome_of group (answer.Fault Ebadf)
+writeat_outcome group bytes offset (Some o) = if can_write o.0.mode.access then writeat_outcome_from group o.0.file o.1 bytes (natural offset) else outcome_of group (answer.Fault Ebadf)
 
 -- what a seek counts from
 abbrev pub seek_base : Whence → Description → File → ℕ
@@ -206,51 +194,51 @@ seek_base Cur description file = description.offset
 seek_base End description file = length file.bytes
 
 -- the offset that a seek leads to, which is not negative and not too large
-abbrev pub sought : Option ℕ → Result ℕ Errno
-sought None = Err Einval
-sought (Some at) = if nat_lt offset_limit at then Err Eoverflow else Ok at
+abbrev pub seek_offset : Option ℕ → Result ℕ Errno
+seek_offset None = Err Einval
+seek_offset (Some at) = if nat_lt offset_max at then Err Eoverflow else Ok at
 
-abbrev pub seek_to : Group → ℕ → Description → Result ℕ Errno → Outcome
-seek_to group id description (Err error) = stays group (answer.Fault error)
-seek_to group id description (Ok at) = record { group = moved group id description at; answer = answer.At at }
+abbrev pub seek_outcome_to : Group → ℕ → Description → Result ℕ Errno → FilesOutcome
+seek_outcome_to group id description (Err error) = outcome_of group (answer.Fault error)
+seek_outcome_to group id description (Ok at) = record { group = with_offset group id description at; answer = answer.At at }
 
-abbrev pub seek : Group → ℕ → ℤ → Whence → Option (Description × File) → Outcome
-seek group id offset whence None = stays group (answer.Fault Ebadf)
-seek group id offset whence (Some o) = seek_to group id o.0 (sought (natural (pos (seek_base whence o.0 o.1) +ℤ offset)))
+abbrev pub seek_outcome : Group → ℕ → ℤ → Whence → Option (Description × File) → FilesOutcome
+seek_outcome group id offset whence None = outcome_of group (answer.Fault Ebadf)
+seek_outcome group id offset whence (Some o) = seek_outcome_to group id o.0 (seek_offset (natural (pos (seek_base whence o.0 o.1) +ℤ offset)))
 
 -- the files of which one has that size
-abbrev pub cut_file : Table File → ℕ → File → ℕ → Table File
-cut_file files id file size = with_other files id (record file { bytes = resized size file.bytes })
+abbrev pub with_size : Table File → ℕ → File → ℕ → Table File
+with_size files id file size = with_row files id (record file { bytes = with_length size file.bytes })
 
 abbrev pub cut_refusal : Table File → ℕ → File → ℕ → Option Errno
-cut_refusal files id file size = refusal size (cut_file files id file size)
+cut_refusal files id file size = refusal size (with_size files id file size)
 
-abbrev pub cut_to : Group → ℕ → File → Option ℕ → Outcome
-cut_to group id file None = stays group (answer.Fault Einval)
-cut_to group id file (Some size) = unless_refused group (cut_refusal group.files id file size) (record { group = with_files group (cut_file group.files id file size); answer = answer.Done })
+abbrev pub cut_outcome_to : Group → ℕ → File → Option ℕ → FilesOutcome
+cut_outcome_to group id file None = outcome_of group (answer.Fault Einval)
+cut_outcome_to group id file (Some size) = unless_refused group (cut_refusal group.files id file size) (record { group = with_files group (with_size group.files id file size); answer = answer.Done })
 
-abbrev pub cut : Group → ℤ → Option (Description × File) → Outcome
-cut group size None = stays group (answer.Fault Ebadf)
-cut group size (Some o) = if can_write o.0.mode.access then cut_to group o.0.file o.1 (natural size) else stays group (answer.Fault Einval)
+abbrev pub cut_outcome : Group → ℤ → Option (Description × File) → FilesOutcome
+cut_outcome group size None = outcome_of group (answer.Fault Ebadf)
+cut_outcome group size (Some o) = if can_write o.0.mode.access then cut_outcome_to group o.0.file o.1 (natural size) else outcome_of group (answer.Fault Einval)
 
-abbrev pub size_of : Option (Description × File) → FileAnswer
-size_of None = answer.Fault Ebadf
-size_of (Some o) = answer.Size (length o.1.bytes)
+abbrev pub size_answer : Option (Description × File) → FileAnswer
+size_answer None = answer.Fault Ebadf
+size_answer (Some o) = answer.Size (length o.1.bytes)
 
 -- each operation on a group
-abbrev pub fstep : Group → FileOp → Outcome
-fstep group (op.Make mode) = made group mode
-fstep group (op.Attach file mode truncate) = attached group file mode truncate (file_at group file)
-fstep group (op.Sizeof file) = stays group (linked_size (file_at group file))
-fstep group (op.Unlinked file) = stays (with_files group (unlinked group.files (is_open group.descriptions file) file (file_at group file))) answer.Done
-fstep group (op.Release id) = released group id (description_at group id)
-fstep group (op.Read id count) = read group id count (opened group id)
-fstep group (op.Readat id count offset) = stays group (read_at count offset (opened group id))
-fstep group (op.Write id bytes) = write group id bytes (opened group id)
-fstep group (op.Writeat id bytes offset) = write_at group bytes offset (opened group id)
-fstep group (op.Seek id offset whence) = seek group id offset whence (opened group id)
-fstep group (op.Cut id size) = cut group size (opened group id)
-fstep group (op.Size id) = stays group (size_of (opened group id))
+abbrev pub fstep : Group → FileOp → FilesOutcome
+fstep group (op.Make mode) = make_outcome group mode
+fstep group (op.Attach file mode truncate) = attach_outcome group file mode truncate (file_at group file)
+fstep group (op.Sizeof file) = outcome_of group (sizeof_answer (file_at group file))
+fstep group (op.Unlinked file) = outcome_of (with_files group (files_after_unlink group.files (is_open group.descriptions file) file (file_at group file))) answer.Done
+fstep group (op.Release id) = release_outcome group id (description_at group id)
+fstep group (op.Read id count) = read_outcome group id count (open_file_at group id)
+fstep group (op.Readat id count offset) = outcome_of group (readat_answer count offset (open_file_at group id))
+fstep group (op.Write id bytes) = write_outcome group id bytes (open_file_at group id)
+fstep group (op.Writeat id bytes offset) = writeat_outcome group bytes offset (open_file_at group id)
+fstep group (op.Seek id offset whence) = seek_outcome group id offset whence (open_file_at group id)
+fstep group (op.Cut id size) = cut_outcome group size (open_file_at group id)
+fstep group (op.Size id) = outcome_of group (size_answer (open_file_at group id))
 
 -- the forms of answer that each operation has
 abbrev pub IsForm : FileOp → FileAnswer → Type 0

@@ -8,7 +8,8 @@ use Rattle.file_store.specs.declared.file_operation.FileOp.{FileOp}
 use Rattle.file_store.specs.declared.file_operation.FileOp.TheVariants as op
 use Rattle.file_store.specs.DescriptorMap.{Map, dstep}
 use Rattle.file_store.specs.declared.file.Description.{Description}
-use Rattle.file_store.specs.FileGroups.{Group, opening, fstep, file_at, description_at, total, group_limit}
+use Rattle.wf_core.specs.Limits.{group_max}
+use Rattle.file_store.specs.FileGroups.{Group, opening, fstep, file_at, description_at, total}
 use Rattle.file_store.specs.Tables.{rows}
 
 -- both numbers name, after an operation, what the first named before it
@@ -52,8 +53,8 @@ OffsetsAreApart = (group : Group) (id other : ℕ) (operation : FileOp) → IsOn
 -- the sizes of a group's files, removed ones that are still open among them, are within the group's limit at first,
 -- and each operation leaves them so
 pub record SizesStayWithin : Type 0 where
-  pub opening : (group : ℕ) → total (opening group).files ≤ group_limit
-  pub kept : (group : Group) (operation : FileOp) → total group.files ≤ group_limit → total (fstep group operation).group.files ≤ group_limit
+  pub opening : (group : ℕ) → total (opening group).files ≤ group_max
+  pub kept : (group : Group) (operation : FileOp) → total group.files ≤ group_max → total (fstep group operation).group.files ≤ group_max
 
 -- each description is of a file that is there
 abbrev pub HaveFiles : Group → Type 0

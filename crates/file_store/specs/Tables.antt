@@ -3,6 +3,7 @@ use Rattle.std.specs.Prelude.{◌≡◌, ℕ, ◌+◌, ◌<◌, List, [], Option
 use Rattle.std.specs.Ordering.{nat_cmp}
 use Rattle.std.specs.Map.{lookup, set_value, remove_entry, values_of}
 use Rattle.std.specs.BTreeMap.{insert_entry, is_at}
+use Rattle.wf_core.specs.Limits.{group_count}
 
 -- the entries in the order of their ids, and the next id
 pub record Table (X : Type 0) : Type 0 where
@@ -21,16 +22,16 @@ module _ {X : Type 0} where
   abbrev pub rows : Table X → List X
   rows table = values_of table.entries
 
-  -- the table with one entry more, under the next id. Ids go up by 4, so none is used again
-  abbrev pub added : Table X → X → Table X
-  added table x = record { entries = insert_entry nat_cmp table.entries table.next x; next = table.next + 4 }
+  -- the table with one entry more, under the next id. Ids go up by the number of groups, so none is used again
+  abbrev pub with_next_row : Table X → X → Table X
+  with_next_row table x = record { entries = insert_entry nat_cmp table.entries table.next x; next = table.next + group_count }
 
   -- the table in which an id that names something names something else
-  abbrev pub with_other : Table X → ℕ → X → Table X
-  with_other table id x = record table { entries = set_value (is_at (nat_cmp id)) table.entries x }
+  abbrev pub with_row : Table X → ℕ → X → Table X
+  with_row table id x = record table { entries = set_value (is_at (nat_cmp id)) table.entries x }
 
-  abbrev pub without : Table X → ℕ → Table X
-  without table id = record table { entries = remove_entry (is_at (nat_cmp id)) table.entries }
+  abbrev pub without_row : Table X → ℕ → Table X
+  without_row table id = record table { entries = remove_entry (is_at (nat_cmp id)) table.entries }
 
   -- no id from the next on names anything
   abbrev pub IsFresh : Table X → Type 0
@@ -38,4 +39,4 @@ module _ {X : Type 0} where
 
   -- an entry was added under that id
   abbrev pub IsAdded : Table X → ℕ → Type 0
-  IsAdded table id = (before : Table X) × (x : X) × IsFresh before × (id ≡ before.next) × (table ≡ added before x)
+  IsAdded table id = (before : Table X) × (x : X) × IsFresh before × (id ≡ before.next) × (table ≡ with_next_row before x)

@@ -1,13 +1,12 @@
 ghost use Rattle.std.specs.Prelude.{◌≡◌, ◌+◌, ◌^◌, ◌<◌, [], length, IfOk, OnOk, OnErr};
-ghost use Rattle.file_store.specs.FileBytes.{part, overwritten, resized, page_count};
+ghost use Rattle.file_store.specs.FileBytes.{part, with_bytes_at, with_length, page_count};
 
-use crate::page::PAGE_SIZE;
 use crate::pages::{Pages, piece_size};
 use std::alloc::{AllocError, Global};
 use std::marker::Model;
-use wf_core::Text;
+use wf_core::{PAGE_SIZE, Text};
 
-/// The bytes of a file, seen as their flat list. Of its pages of 4,096 bytes only those are kept that hold
+/// The bytes of a file, seen as their flat list. Of its pages only those are kept that hold
 /// a byte other than 0.
 #[derive(Drop)]
 pub(crate) struct Contents {
@@ -77,7 +76,7 @@ impl Contents {
         bytes: &[u8],
     ) -> Result<(), AllocError>
         requires { offset + length bytes.now < 2 ^ 63 }
-        ensures ok { OnOk result (self.new ≡ overwritten self.old offset bytes.now) }
+        ensures ok { OnOk result (self.new ≡ with_bytes_at self.old offset bytes.now) }
         ensures err { OnErr result (self.new ≡ self.old) }
     {
         if let Err(error) = self.pages.reserve(alloc, offset, bytes) {
@@ -91,7 +90,7 @@ impl Contents {
 
     /// Has the file be of that size. It takes at most the time of the pages that are kept.
     pub(crate) fn cut(&mut self, size: u64)
-        ensures { self.new ≡ resized size self.old }
+        ensures { self.new ≡ with_length size self.old }
     {
         if size < self.size {
             self.pages.truncate(size);

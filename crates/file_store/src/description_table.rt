@@ -1,12 +1,13 @@
 ghost use Rattle.std.specs.Prelude.{◌≡◌, ℕ, ◌<◌, IsSome, IfSome, IfOk, OnErr};
 ghost use Rattle.file_store.specs.FileGroups.{is_open};
-ghost use Rattle.file_store.specs.Tables.{Table, IsFresh, IsAdded, empty_from, row_at, added, with_other, without};
+ghost use Rattle.file_store.specs.Tables.{Table, IsFresh, IsAdded, empty_from, row_at, with_next_row, with_row, without_row};
 ghost use Rattle.file_store.specs.declared.file.Description.{Description};
 
 use crate::file::Description;
 use std::alloc::{AllocError, Global};
 use std::collections::BTreeMap;
 use std::marker::Model;
+use wf_core::GROUP_COUNT;
 
 /// The open file descriptions of one group, by their ids.
 #[derive(Drop)]
@@ -23,7 +24,8 @@ impl Model for DescriptionTable {
 
     ghost view = { λ t. record { entries = t.descriptions.entries; next = t.next } };
 
-    ghost invariant = { λ t. IsFresh {X = Description} (record { entries = t.descriptions.entries; next = t.next }) };
+    ghost invariant = { λ t. IsFresh {X = Description}
+        (record { entries = t.descriptions.entries; next = t.next }) };
 }
 
 impl DescriptionTable {
@@ -53,12 +55,13 @@ impl DescriptionTable {
 
     /// Adds a description and tells its id.
     pub(crate) fn add(&mut self, description: Description) -> Result<u64, AllocError>
-        ensures ok { IfOk result (λ id. (id ≡ self.old.next) × (self.new ≡ added self.old description)) }
+        ensures ok { IfOk result
+            (λ id. (id ≡ self.old.next) × (self.new ≡ with_next_row self.old description)) }
         ensures err { OnErr result (self.new ≡ self.old) }
         ensures fresh { IsFresh self.old }
     {
         let id = self.next;
-        let Some(next) = id.checked_add(4) else {
+        let Some(next) = id.checked_add(GROUP_COUNT) else {
             return Err(AllocError);
         };
         self.descriptions.insert(id, description)?;
@@ -69,7 +72,8 @@ impl DescriptionTable {
     /// Takes back the description that was added last.
     pub(crate) fn undo_add(&mut self, id: u64)
         requires { IsAdded self.old id }
-        ensures { (before : Table Description) (description : Description) → IsFresh before → id ≡ before.next → self.old ≡ added before description → self.new ≡ before }
+        ensures { (before : Table Description) (description : Description) → IsFresh before → id
+            ≡ before.next → self.old ≡ with_next_row before description → self.new ≡ before }
     {
         self.descriptions.remove(&id);
         self.next = id;
@@ -77,7 +81,9 @@ impl DescriptionTable {
 
     /// Moves the offset of a description.
     pub(crate) fn move_to(&mut self, id: u64, offset: u64)
-        ensures { IfSome (row_at self.old id) (λ description. self.new ≡ with_other self.old id (record description { offset = offset })) }
+        ensures { IfSome (row_at self.old id)
+            (λ description. self.new
+            ≡ with_row self.old id (record description { offset = offset })) }
     {
         if let Some(description) = self.descriptions.get_mut(&id) {
             description.offset = offset;
@@ -85,7 +91,7 @@ impl DescriptionTable {
     }
 
     pub(crate) fn remove(&mut self, id: u64)
-        ensures { self.new ≡ without self.old id }
+        ensures { self.new ≡ without_row self.old id }
     {
         self.descriptions.remove(&id);
     }

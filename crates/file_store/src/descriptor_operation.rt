@@ -6,6 +6,7 @@ use wf_core::Errno;
 /// What a descriptor number is. Backends, descriptions and directories are named by their ids.
 #[derive(Clone, Copy, Debug, PartialEq, Eq)]
 pub enum Slot {
+    /// It names nothing.
     Free,
     /// Kept for an `open` that is not finished.
     Reserved,
@@ -59,11 +60,11 @@ impl Slot {
 pub enum FdOp {
     /// Reserves the lowest free number.
     Reserve,
-    /// Has a reserved number name that description of that backend.
+    /// Has a reserved number name that description of that backend. Another number stays as it is.
     FillFile(u32, u32, u64),
-    /// Has a reserved number name that directory of that backend.
+    /// Has a reserved number name that directory of that backend. Another number stays as it is.
     FillDir(u32, u32, u64),
-    /// Frees a reserved number.
+    /// Frees a reserved number. Another number stays as it is.
     Drop(u32),
     /// What does that number name?
     Look(u32),
@@ -82,6 +83,7 @@ pub enum FdAnswer {
     Fd(u32),
     /// The same, and it was the last number of that description of that backend.
     FdLast(u32, u32, u64),
+    /// It was done, and no description lost its last number; or the number was not reserved, and stays as it was.
     Done,
     /// It was the last number of that description of that backend.
     Last(u32, u64),
@@ -89,6 +91,7 @@ pub enum FdAnswer {
     File(u32, u64),
     /// That directory of that backend.
     Dir(u32, u64),
-    /// `EBADF` where a number names nothing, `EMFILE` where none is free, `EBUSY` where a target is reserved.
+    /// `EBADF` where the number that is asked for names nothing, or a target is not below `OPEN_MAX`; `EMFILE` where no
+    /// number is free; `EBUSY` where a target is reserved.
     Fault(Errno),
 }

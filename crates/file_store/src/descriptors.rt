@@ -1,38 +1,41 @@
 ghost use Rattle.std.specs.Prelude.{◌≡◌, ◌<◌, false, length, IfOk, IfSome, slice_set};
-ghost use Rattle.file_store.specs.DescriptorMap.{opening, slot_at, is_free, is_open, lowest_free, placed, settled, looked_up, copied, copied_over, copied_to, taken, dstep, IsForm};
+ghost use Rattle.file_store.specs.DescriptorMap.{opening, slot_at, is_free, is_description_open, lowest_free, place_outcome, fill_outcome, look_answer, copy_outcome, copyto_outcome_over, copyto_outcome, take_outcome, dstep, IsForm};
+ghost use Rattle.wf_core.specs.Limits.{open_max};
 
 use crate::descriptor_operation::{FdAnswer, FdOp, Slot};
 use crate::number_set::NumberSet;
 use std::alloc::{AllocError, Global};
 use std::marker::Model;
-use wf_core::Errno;
+use wf_core::{Errno, OPEN_MAX};
 
-/// The descriptors, seen as what each number from 0 to 1,023 is.
+/// The descriptors, seen as what each number below `OPEN_MAX` is.
 #[derive(Drop)]
 pub struct Descriptors {
     slots: Vec<Slot>,
-    // The free numbers, so that the lowest is found without a look at each slot.
+    /// The free numbers, so that the lowest is found without a look at each slot.
     free: NumberSet,
 }
 
 impl Model for Descriptors {
     ghost use Rattle.std.specs.Prelude.{◌≡◌, map, length};
+    ghost use Rattle.wf_core.specs.Limits.{open_max};
     ghost use Rattle.file_store.specs.DescriptorMap.{Map, is_free};
 
     ghost Value = { Map };
 
     ghost view = { λ d. d.slots.items };
 
-    ghost invariant = { λ d. (length d.slots.items ≡ 1024) × (d.free ≡ map is_free d.slots.items) };
+    ghost invariant = { λ d. (length d.slots.items ≡ open_max)
+        × (d.free ≡ map is_free d.slots.items) };
 }
 
 impl Descriptors {
-    /// 1,024 free numbers. It takes all the memory that they will ever need.
+    /// `OPEN_MAX` free numbers. It takes all the memory that they will ever need.
     pub fn new(alloc: Global) -> Result<Descriptors, AllocError>
         ensures { IfOk result (λ map. map ≡ opening) }
     {
         Ok(Descriptors {
-            slots: vec![in alloc; Slot::Free; 1024]?,
+            slots: vec![in alloc; Slot::Free; OPEN_MAX]?,
             free: NumberSet::full(),
         })
     }
@@ -42,15 +45,15 @@ impl Descriptors {
     pub fn apply(&mut self, op: &FdOp) -> FdAnswer
         ensures step { dstep self.old op.now ≡ record { map = self.new; answer = result } }
         ensures form { IsForm op.now result }
-        ensures numbers { length self.new ≡ 1024 }
+        ensures numbers { length self.new ≡ open_max }
     {
         match *op {
             FdOp::Reserve => self.place(Slot::Reserved),
             FdOp::FillFile(number, backend, description) => {
-                self.settle(number, Slot::File(backend, description))
+                self.fill(number, Slot::File(backend, description))
             }
-            FdOp::FillDir(number, backend, id) => self.settle(number, Slot::Dir(backend, id)),
-            FdOp::Drop(number) => self.settle(number, Slot::Free),
+            FdOp::FillDir(number, backend, id) => self.fill(number, Slot::Dir(backend, id)),
+            FdOp::Drop(number) => self.fill(number, Slot::Free),
             FdOp::Look(number) => self.look(number),
             FdOp::Copy(number) => self.copy(number),
             FdOp::Copyto(number, target) => self.copy_to(number, target),
@@ -61,7 +64,7 @@ impl Descriptors {
     fn slot(&self, number: u32) -> Slot
         ensures value { result ≡ slot_at self.now number }
         ensures within { is_free result ≡ false → number < length self.now }
-        ensures numbers { length self.now ≡ 1024 }
+        ensures numbers { length self.now ≡ open_max }
     {
         self.slots
             .get(number as usize)
@@ -72,14 +75,14 @@ impl Descriptors {
     fn lowest_free(&self) -> Option<u32>
         ensures value { result ≡ lowest_free self.now }
         ensures within { IfSome result (λ number. number < length self.now) }
-        ensures numbers { length self.now ≡ 1024 }
+        ensures numbers { length self.now ≡ open_max }
     {
         self.free.first()
     }
 
-    // Whether some number names that description.
+    /// Whether some number names that description.
     fn is_open(&self, backend: u32, description: u64) -> bool
-        ensures { result ≡ is_open backend description self.now }
+        ensures { result ≡ is_description_open backend description self.now }
     {
         self.slots
             .iter()
@@ -89,7 +92,7 @@ impl Descriptors {
     fn set(&mut self, number: u32, slot: Slot)
         requires { number < length self.old }
         ensures value { self.new ≡ slice_set self.old number slot }
-        ensures numbers { length self.new ≡ 1024 }
+        ensures numbers { length self.new ≡ open_max }
     {
         let number = number as usize;
         self.slots[number] = slot;
@@ -100,10 +103,11 @@ impl Descriptors {
         }
     }
 
-    // Has the lowest free number be what is asked.
+    /// Has the lowest free number be what is asked.
     fn place(&mut self, slot: Slot) -> FdAnswer
-        ensures step { placed self.old slot (lowest_free self.old) ≡ record { map = self.new; answer = result } }
-        ensures numbers { length self.new ≡ 1024 }
+        ensures step { place_outcome self.old slot (lowest_free self.old)
+            ≡ record { map = self.new; answer = result } }
+        ensures numbers { length self.new ≡ open_max }
     {
         let Some(number) = self.lowest_free() else {
             return FdAnswer::Fault(Errno::Emfile);
@@ -112,10 +116,11 @@ impl Descriptors {
         FdAnswer::Fd(number)
     }
 
-    // Has a reserved number be what is asked. Another stays as it is.
-    fn settle(&mut self, number: u32, slot: Slot) -> FdAnswer
-        ensures step { settled self.old number slot (slot_at self.old number) ≡ record { map = self.new; answer = result } }
-        ensures numbers { length self.new ≡ 1024 }
+    /// Has a reserved number be what is asked. Another stays as it is.
+    fn fill(&mut self, number: u32, slot: Slot) -> FdAnswer
+        ensures step { fill_outcome self.old number slot (slot_at self.old number)
+            ≡ record { map = self.new; answer = result } }
+        ensures numbers { length self.new ≡ open_max }
     {
         let old = self.slot(number);
         if !old.is_reserved() {
@@ -126,8 +131,8 @@ impl Descriptors {
     }
 
     fn look(&self, number: u32) -> FdAnswer
-        ensures step { result ≡ looked_up (slot_at self.now number) }
-        ensures numbers { length self.now ≡ 1024 }
+        ensures step { result ≡ look_answer (slot_at self.now number) }
+        ensures numbers { length self.now ≡ open_max }
     {
         match self.slot(number) {
             Slot::File(backend, description) => FdAnswer::File(backend, description),
@@ -137,8 +142,9 @@ impl Descriptors {
     }
 
     fn copy(&mut self, number: u32) -> FdAnswer
-        ensures step { copied self.old (slot_at self.old number) ≡ record { map = self.new; answer = result } }
-        ensures numbers { length self.new ≡ 1024 }
+        ensures step { copy_outcome self.old (slot_at self.old number)
+            ≡ record { map = self.new; answer = result } }
+        ensures numbers { length self.new ≡ open_max }
     {
         let slot = self.slot(number);
         if !slot.is_named() {
@@ -148,8 +154,9 @@ impl Descriptors {
     }
 
     fn copy_to(&mut self, number: u32, target: u32) -> FdAnswer
-        ensures step { copied_to self.old (slot_at self.old number) target ≡ record { map = self.new; answer = result } }
-        ensures numbers { length self.new ≡ 1024 }
+        ensures step { copyto_outcome self.old (slot_at self.old number) target
+            ≡ record { map = self.new; answer = result } }
+        ensures numbers { length self.new ≡ open_max }
     {
         let slot = self.slot(number);
         if !slot.is_named() || target as usize >= self.slots.len() {
@@ -158,11 +165,12 @@ impl Descriptors {
         self.copy_over(target, slot)
     }
 
-    // Has a number name what is asked, whatever it named before.
+    /// Has a number name what is asked, whatever it named before.
     fn copy_over(&mut self, number: u32, slot: Slot) -> FdAnswer
         requires { number < length self.old }
-        ensures step { copied_over self.old number slot (slot_at self.old number) ≡ record { map = self.new; answer = result } }
-        ensures numbers { length self.new ≡ 1024 }
+        ensures step { copyto_outcome_over self.old number slot (slot_at self.old number)
+            ≡ record { map = self.new; answer = result } }
+        ensures numbers { length self.new ≡ open_max }
     {
         match self.slot(number) {
             Slot::Reserved => FdAnswer::Fault(Errno::Ebusy),
@@ -181,8 +189,9 @@ impl Descriptors {
     }
 
     fn take(&mut self, number: u32) -> FdAnswer
-        ensures step { taken self.old number (slot_at self.old number) ≡ record { map = self.new; answer = result } }
-        ensures numbers { length self.new ≡ 1024 }
+        ensures step { take_outcome self.old number (slot_at self.old number)
+            ≡ record { map = self.new; answer = result } }
+        ensures numbers { length self.new ≡ open_max }
     {
         match self.slot(number) {
             Slot::Free | Slot::Reserved => FdAnswer::Fault(Errno::Ebadf),

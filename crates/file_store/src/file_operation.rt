@@ -59,15 +59,15 @@ pub enum FileOp {
     Unlinked(u64),
     /// Ends that description, and its file where that is not linked and has no other.
     Release(u64),
-    /// Reads at most so many bytes, and 4,096, from the description's offset, which moves on.
+    /// Reads at most so many bytes, and `READ_MAX`, from the description's offset, which moves on.
     Read(u64, u32),
-    /// Reads at most so many bytes, and 4,096, from that offset.
+    /// Reads at most so many bytes, and `READ_MAX`, from that offset.
     Readat(u64, u32, i64),
     /// Writes bytes at the description's offset, or at the file's end under `append`.
     Write(u64, Text),
     /// Writes bytes at that offset.
     Writeat(u64, Text, i64),
-    /// Moves the description's offset, to at most 1,099,511,627,776.
+    /// Moves the description's offset, to at most `OFFSET_MAX`.
     Seek(u64, i64, Whence),
     /// Has the description's file be of that size.
     Cut(u64, i64),
@@ -86,6 +86,7 @@ pub enum FileAnswer {
     Desc(u64),
     /// The file's size in bytes.
     Size(u64),
+    /// It was done, and there is nothing to tell.
     Done,
     /// The bytes that were read.
     Bytes(Text),
@@ -95,7 +96,7 @@ pub enum FileAnswer {
     At(u64),
     /// `EBADF` where there is no such description or its access does not allow the operation, `EINVAL`
     /// for a negative offset or size and for a cut without write access, `EFBIG` where a file would end
-    /// behind 16,777,216 bytes, `ENOSPC` where the group would have more than 67,108,864, `EOVERFLOW`
+    /// behind `FILE_MAX` bytes, `ENOSPC` where the group would have more than `GROUP_MAX`, `EOVERFLOW`
     /// where an offset would be too large.
     Fault(Errno),
 }

@@ -1,22 +1,16 @@
 ghost use Rattle.std.specs.Prelude.{◌≡◌, ℕ, ◌<◌, ◌≤◌, [], false, None, Some, length, IsSome, IfSome, IfOk, OnOk, OnErr};
 ghost use Rattle.std.specs.Option.{option_copied};
-ghost use Rattle.file_store.specs.FileGroups.{empty_file, refusal, put, put_refusal, cut_file, cut_refusal, total_pages};
+ghost use Rattle.file_store.specs.FileGroups.{empty_file, refusal, with_bytes, put_refusal, with_size, cut_refusal, total_pages};
 ghost use Rattle.file_store.specs.FileTables.{put_unless, cut_unless};
 ghost use Rattle.file_store.specs.declared.file.File.{File};
-ghost use Rattle.file_store.specs.Tables.{empty_from, row_at, added, with_other, without};
+ghost use Rattle.file_store.specs.Tables.{empty_from, row_at, with_next_row, with_row, without_row};
 
 use crate::contents::Contents;
 use crate::file::File;
 use std::alloc::{AllocError, Global};
 use std::collections::BTreeMap;
 use std::marker::Model;
-use wf_core::Errno;
-
-/// The most bytes of a file.
-const FILE_LIMIT: u64 = 16_777_216;
-
-/// The most bytes of all files of a group.
-const GROUP_LIMIT: u64 = 67_108_864;
+use wf_core::{Errno, FILE_MAX, GROUP_COUNT, GROUP_MAX};
 
 /// The files of one group, by their ids.
 #[derive(Drop)]
@@ -24,7 +18,7 @@ pub(crate) struct FileTable {
     alloc: Global,
     files: BTreeMap<u64, File>,
     next: u64,
-    // How many bytes all files have together.
+    /// How many bytes all files have together.
     total: u64,
 }
 
@@ -37,7 +31,8 @@ impl Model for FileTable {
 
     ghost view = { λ t. record { entries = t.files.entries; next = t.next } };
 
-    ghost invariant = { λ t. IsSummed (record { entries = t.files.entries; next = t.next }) t.total };
+    ghost invariant = { λ t. IsSummed
+        (record { entries = t.files.entries; next = t.next }) t.total };
 }
 
 impl FileTable {
@@ -67,10 +62,10 @@ impl FileTable {
 
     /// Adds an empty file that is linked.
     pub(crate) fn add(&mut self) -> Result<(), AllocError>
-        ensures ok { IfOk result (λ _. self.new ≡ added self.old empty_file) }
+        ensures ok { IfOk result (λ _. self.new ≡ with_next_row self.old empty_file) }
         ensures err { OnErr result (self.new ≡ self.old) }
     {
-        let Some(next) = self.next.checked_add(4) else {
+        let Some(next) = self.next.checked_add(GROUP_COUNT) else {
             return Err(AllocError);
         };
         let file = File {
@@ -90,7 +85,8 @@ impl FileTable {
         bytes: &[u8],
     ) -> Result<Option<Errno>, AllocError>
         ensures ok { IfOk result (λ refused. IfSome (row_at self.old id) (λ file.
-            (refused ≡ put_refusal self.old id file at bytes.now) × (self.new ≡ put_unless self.old id file at bytes.now refused))) }
+            (refused ≡ put_refusal self.old id file at bytes.now)
+            × (self.new ≡ put_unless self.old id file at bytes.now refused))) }
         ensures err { OnErr result (self.new ≡ self.old) }
     {
         let Some(file) = self.get(id) else {
@@ -110,7 +106,8 @@ impl FileTable {
     /// Has a file that is there be of that size, unless that or the sizes of all would be too great.
     pub(crate) fn cut(&mut self, id: u64, size: u64) -> Option<Errno>
         ensures { IfSome (row_at self.old id) (λ file.
-            (result ≡ cut_refusal self.old id file size) × (self.new ≡ cut_unless self.old id file size result)) }
+            (result ≡ cut_refusal self.old id file size)
+            × (self.new ≡ cut_unless self.old id file size result)) }
     {
         if let Some(error) = self.refusal(id, size, size) {
             return Some(error);
@@ -119,28 +116,31 @@ impl FileTable {
         None
     }
 
-    // Why a file may not come to have that size and that end.
+    /// Why a file may not come to have that size and that end.
     fn refusal(&self, id: u64, size: u64, end: u64) -> Option<Errno>
         ensures { IfSome (row_at self.now id) (λ file. (new : File) → length new.bytes ≡ size
-            → result ≡ refusal end (with_other self.now id new)) }
+            → result ≡ refusal end (with_row self.now id new)) }
     {
         let Some(file) = self.files.get(&id) else {
             return None;
         };
         let others = self.total - file.bytes.size();
-        if end > FILE_LIMIT {
+        if end > FILE_MAX {
             return Some(Errno::Efbig);
         }
-        if others.saturating_add(size) > GROUP_LIMIT {
+        if others.saturating_add(size) > GROUP_MAX {
             return Some(Errno::Enospc);
         }
         None
     }
 
-    // Writes bytes into a file, which is not refused.
+    /// Writes bytes into a file, which is not refused.
     fn write(&mut self, id: u64, at: u64, bytes: &[u8]) -> Result<(), AllocError>
-        requires { (file : File) → row_at self.old id ≡ Some file → put_refusal self.old id file at bytes.now ≡ None }
-        ensures ok { OnOk result (IfSome (row_at self.old id) (λ file. self.new ≡ put self.old id file at bytes.now)) }
+        requires { (file : File) → row_at self.old id ≡ Some file
+            → put_refusal self.old id file at bytes.now ≡ None }
+        ensures ok { OnOk result
+            (IfSome (row_at self.old id)
+            (λ file. self.new ≡ with_bytes self.old id file at bytes.now)) }
         ensures err { OnErr result (self.new ≡ self.old) }
     {
         let Some(file) = self.files.get_mut(&id) else {
@@ -152,10 +152,11 @@ impl FileTable {
         Ok(())
     }
 
-    // Has a file be of a size that is not refused.
+    /// Has a file be of a size that is not refused.
     fn resize(&mut self, id: u64, size: u64)
-        requires { (file : File) → row_at self.old id ≡ Some file → cut_refusal self.old id file size ≡ None }
-        ensures { IfSome (row_at self.old id) (λ file. self.new ≡ cut_file self.old id file size) }
+        requires { (file : File) → row_at self.old id ≡ Some file
+            → cut_refusal self.old id file size ≡ None }
+        ensures { IfSome (row_at self.old id) (λ file. self.new ≡ with_size self.old id file size) }
     {
         let Some(file) = self.files.get_mut(&id) else {
             return;
@@ -166,7 +167,8 @@ impl FileTable {
 
     /// Has a file that is there be empty.
     pub(crate) fn clear(&mut self, id: u64)
-        ensures { IfSome (row_at self.old id) (λ file. self.new ≡ with_other self.old id (record file { bytes = [] })) }
+        ensures { IfSome (row_at self.old id)
+            (λ file. self.new ≡ with_row self.old id (record file { bytes = [] })) }
     {
         let Some(file) = self.files.get_mut(&id) else {
             return;
@@ -177,7 +179,8 @@ impl FileTable {
 
     /// No directory has an entry of that file any more.
     pub(crate) fn unlink(&mut self, id: u64)
-        ensures { IfSome (row_at self.old id) (λ file. self.new ≡ with_other self.old id (record file { linked = false })) }
+        ensures { IfSome (row_at self.old id)
+            (λ file. self.new ≡ with_row self.old id (record file { linked = false })) }
     {
         let Some(file) = self.files.get_mut(&id) else {
             return;
@@ -187,7 +190,7 @@ impl FileTable {
 
     /// Frees a file with its pages.
     pub(crate) fn remove(&mut self, id: u64)
-        ensures { self.new ≡ without self.old id }
+        ensures { self.new ≡ without_row self.old id }
     {
         let Some(file) = self.files.remove(&id) else {
             return;

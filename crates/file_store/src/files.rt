@@ -1,6 +1,7 @@
 ghost use Rattle.std.specs.Prelude.{◌≡◌, ℕ, ◌<◌, ◌≤◌, ◌+ℤ◌, pos, Option, None, Some, MatchOption, true, IsOk, IfOk, IfSome, OnErr};
 ghost use Rattle.std.specs.Option.{option_map};
-ghost use Rattle.file_store.specs.FileGroups.{opening, opened, file_at, description_at, made, attached, linked_size, unlinked, with_files, is_open, released, closed, read, read_at, write, write_at, seek, cut, size_of, natural, write_offset, seek_base, sought, fstep, IsForm, takes_no_memory, total_pages};
+ghost use Rattle.file_store.specs.FileGroups.{opening, open_file_at, file_at, description_at, make_outcome, attach_outcome, sizeof_answer, files_after_unlink, with_files, is_open, release_outcome, group_after_release, read_outcome, readat_answer, write_outcome, writeat_outcome, seek_outcome, cut_outcome, size_answer, natural, write_offset, seek_base, seek_offset, fstep, IsForm, takes_no_memory, total_pages};
+ghost use Rattle.wf_core.specs.Limits.{group_count};
 
 use crate::description_table::DescriptionTable;
 use crate::file::{Description, File};
@@ -8,13 +9,7 @@ use crate::file_operation::{FileAnswer, FileOp, Mode, Whence};
 use crate::file_table::FileTable;
 use std::alloc::{AllocError, Global};
 use std::marker::Model;
-use wf_core::{Errno, Text};
-
-/// The most bytes of one read.
-const READ_LIMIT: u32 = 4_096;
-
-/// The greatest offset of a seek.
-const OFFSET_LIMIT: u64 = 1_099_511_627_776;
+use wf_core::{Errno, OFFSET_MAX, READ_MAX, Text};
 
 /// The files of one group of a backend and their open descriptions, seen as both by their ids.
 #[derive(Drop)]
@@ -35,7 +30,7 @@ impl Model for Files {
 impl Files {
     /// A group without files. The ids of group 0 to 3 are its number, and from there on each fourth one.
     pub fn new(alloc: Global, group: u32) -> Files
-        requires { group < 4 }
+        requires { group < group_count }
         ensures { result ≡ opening group }
     {
         let first = u64::from(group);
@@ -46,7 +41,7 @@ impl Files {
         }
     }
 
-    /// How many pages of 4,096 bytes of all files hold a byte other than 0. It takes no memory.
+    /// How many pages of all files hold a byte other than 0. It takes no memory.
     pub fn pages(&self) -> usize
         ensures { result ≡ total_pages self.now.files }
     {
@@ -56,7 +51,8 @@ impl Files {
     /// Takes one step, which is the definition's. Want of memory changes nothing.
     #[tactic(auto, using(crate::proofs::FormLemmas::is_form))]
     pub fn apply(&mut self, op: &FileOp) -> Result<FileAnswer, AllocError>
-        ensures ok { IfOk result (λ answer. fstep self.old op.now ≡ record { group = self.new; answer = answer }) }
+        ensures ok { IfOk result
+            (λ answer. fstep self.old op.now ≡ record { group = self.new; answer = answer }) }
         ensures form { IfOk result (IsForm op.now) }
         ensures succeeds { takes_no_memory op.now ≡ true → IsOk result }
         ensures err { OnErr result (self.new ≡ self.old) }
@@ -77,9 +73,9 @@ impl Files {
         }
     }
 
-    // A description with its file.
+    /// A description with its file.
     fn opened(&self, id: u64) -> Option<(Description, &File)>
-        ensures value { option_map (λ o. (o.0, o.1.now)) result ≡ opened self.now id }
+        ensures value { option_map (λ o. (o.0, o.1.now)) result ≡ open_file_at self.now id }
         ensures there { IfSome result (λ o. description_at self.now id ≡ Some o.0) }
         ensures file { IfSome result (λ o. file_at self.now o.0.file ≡ Some o.1.now) }
     {
@@ -89,7 +85,8 @@ impl Files {
     }
 
     fn make(&mut self, mode: Mode) -> Result<FileAnswer, AllocError>
-        ensures ok { IfOk result (λ answer. made self.old mode ≡ record { group = self.new; answer = answer }) }
+        ensures ok { IfOk result
+            (λ answer. make_outcome self.old mode ≡ record { group = self.new; answer = answer }) }
         ensures err { OnErr result (self.new ≡ self.old) }
     {
         let file = self.files.next();
@@ -107,7 +104,9 @@ impl Files {
     }
 
     fn attach(&mut self, file: u64, mode: Mode, truncate: bool) -> Result<FileAnswer, AllocError>
-        ensures ok { IfOk result (λ answer. attached self.old file mode truncate (file_at self.old file) ≡ record { group = self.new; answer = answer }) }
+        ensures ok { IfOk result
+            (λ answer. attach_outcome self.old file mode truncate (file_at self.old file)
+            ≡ record { group = self.new; answer = answer }) }
         ensures err { OnErr result (self.new ≡ self.old) }
     {
         let Some(found) = self.files.get(file) else {
@@ -130,7 +129,7 @@ impl Files {
     }
 
     fn size_of_file(&self, file: u64) -> FileAnswer
-        ensures { result ≡ linked_size (file_at self.now file) }
+        ensures { result ≡ sizeof_answer (file_at self.now file) }
     {
         let Some(found) = self.files.get(file) else {
             return FileAnswer::Gone;
@@ -142,7 +141,10 @@ impl Files {
     }
 
     fn unlink(&mut self, file: u64) -> FileAnswer
-        ensures left { self.new ≡ with_files self.old (unlinked self.old.files (is_open self.old.descriptions file) file (file_at self.old file)) }
+        ensures left { self.new
+            ≡ with_files self.old
+            (files_after_unlink self.old.files (is_open self.old.descriptions file) file
+            (file_at self.old file)) }
         ensures done { result ≡ FileAnswer.Done }
     {
         if self.files.get(file).is_none() {
@@ -157,7 +159,8 @@ impl Files {
     }
 
     fn release(&mut self, id: u64) -> FileAnswer
-        ensures { released self.old id (description_at self.old id) ≡ record { group = self.new; answer = result } }
+        ensures { release_outcome self.old id (description_at self.old id)
+            ≡ record { group = self.new; answer = result } }
     {
         let Some(description) = self.descriptions.get(id) else {
             return FileAnswer::Fault(Errno::Ebadf);
@@ -167,9 +170,9 @@ impl Files {
         FileAnswer::Done
     }
 
-    // Frees a file that is neither linked nor open.
+    /// Frees a file that is neither linked nor open.
     fn sweep(&mut self, file: u64)
-        ensures { self.new ≡ closed self.old self.old.descriptions file }
+        ensures { self.new ≡ group_after_release self.old self.old.descriptions file }
     {
         let Some(found) = self.files.get(file) else {
             return;
@@ -181,7 +184,9 @@ impl Files {
     }
 
     fn read(&mut self, id: u64, count: u32) -> Result<FileAnswer, AllocError>
-        ensures ok { IfOk result (λ answer. read self.old id count (opened self.old id) ≡ record { group = self.new; answer = answer }) }
+        ensures ok { IfOk result
+            (λ answer. read_outcome self.old id count (open_file_at self.old id)
+            ≡ record { group = self.new; answer = answer }) }
         ensures err { OnErr result (self.new ≡ self.old) }
     {
         let Some((description, file)) = self.opened(id) else {
@@ -190,7 +195,7 @@ impl Files {
         if !description.mode.access.can_read() {
             return Ok(FileAnswer::Fault(Errno::Ebadf));
         }
-        let count = count.min(READ_LIMIT) as usize;
+        let count = count.min(READ_MAX) as usize;
         let bytes = file.bytes.read(self.alloc, description.offset, count)?;
         let offset = description.offset + bytes.as_bytes().len() as u64;
         self.descriptions.move_to(id, offset);
@@ -198,7 +203,8 @@ impl Files {
     }
 
     fn read_at(&self, id: u64, count: u32, offset: i64) -> Result<FileAnswer, AllocError>
-        ensures { IfOk result (λ answer. answer ≡ read_at count offset (opened self.now id)) }
+        ensures { IfOk result
+            (λ answer. answer ≡ readat_answer count offset (open_file_at self.now id)) }
     {
         let Some((description, file)) = self.opened(id) else {
             return Ok(FileAnswer::Fault(Errno::Ebadf));
@@ -209,12 +215,14 @@ impl Files {
         let Some(offset) = natural(offset) else {
             return Ok(FileAnswer::Fault(Errno::Einval));
         };
-        let count = count.min(READ_LIMIT) as usize;
+        let count = count.min(READ_MAX) as usize;
         Ok(FileAnswer::Bytes(file.bytes.read(self.alloc, offset, count)?))
     }
 
     fn write(&mut self, id: u64, text: &Text) -> Result<FileAnswer, AllocError>
-        ensures ok { IfOk result (λ answer. write self.old id text.now (opened self.old id) ≡ record { group = self.new; answer = answer }) }
+        ensures ok { IfOk result
+            (λ answer. write_outcome self.old id text.now (open_file_at self.old id)
+            ≡ record { group = self.new; answer = answer }) }
         ensures err { OnErr result (self.new ≡ self.old) }
     {
         let Some((description, file)) = self.opened(id) else {
@@ -237,7 +245,9 @@ impl Files {
     }
 
     fn write_at(&mut self, id: u64, text: &Text, offset: i64) -> Result<FileAnswer, AllocError>
-        ensures ok { IfOk result (λ answer. write_at self.old text.now offset (opened self.old id) ≡ record { group = self.new; answer = answer }) }
+        ensures ok { IfOk result
+            (λ answer. writeat_outcome self.old text.now offset (open_file_at self.old id)
+            ≡ record { group = self.new; answer = answer }) }
         ensures err { OnErr result (self.new ≡ self.old) }
     {
         let Some((description, _)) = self.opened(id) else {
@@ -260,7 +270,8 @@ impl Files {
     }
 
     fn seek(&mut self, id: u64, offset: i64, whence: Whence) -> FileAnswer
-        ensures { seek self.old id offset whence (opened self.old id) ≡ record { group = self.new; answer = result } }
+        ensures { seek_outcome self.old id offset whence (open_file_at self.old id)
+            ≡ record { group = self.new; answer = result } }
     {
         let Some((description, file)) = self.opened(id) else {
             return FileAnswer::Fault(Errno::Ebadf);
@@ -275,7 +286,8 @@ impl Files {
     }
 
     fn cut(&mut self, id: u64, size: i64) -> FileAnswer
-        ensures { cut self.old size (opened self.old id) ≡ record { group = self.new; answer = result } }
+        ensures { cut_outcome self.old size (open_file_at self.old id)
+            ≡ record { group = self.new; answer = result } }
     {
         let Some((description, _)) = self.opened(id) else {
             return FileAnswer::Fault(Errno::Ebadf);
@@ -293,7 +305,7 @@ impl Files {
     }
 
     fn size(&self, id: u64) -> FileAnswer
-        ensures { result ≡ size_of (opened self.now id) }
+        ensures { result ≡ size_answer (open_file_at self.now id) }
     {
         match self.opened(id) {
             Some((_, file)) => FileAnswer::Size(file.bytes.size()),
@@ -302,14 +314,14 @@ impl Files {
     }
 }
 
-// A number that is not negative.
+/// A number that is not negative.
 fn natural(number: i64) -> Option<u64>
     ensures { result ≡ natural number }
 {
     u64::try_from(number).ok()
 }
 
-// Where a description writes.
+/// Where a description writes.
 fn write_offset(description: Description, file: &File) -> u64
     ensures { result ≡ write_offset description file.now }
 {
@@ -320,7 +332,7 @@ fn write_offset(description: Description, file: &File) -> u64
     }
 }
 
-// What a seek counts from.
+/// What a seek counts from.
 fn seek_base(whence: Whence, description: Description, file: &File) -> u64
     ensures { result ≡ seek_base whence description file.now }
 {
@@ -331,9 +343,9 @@ fn seek_base(whence: Whence, description: Description, file: &File) -> u64
     }
 }
 
-// The offset that a seek leads to: `EINVAL` where it is negative, `EOVERFLOW` where it is too large.
+/// The offset that a seek leads to: `EINVAL` where it is negative, `EOVERFLOW` where it is too large.
 fn sought(base: u64, by: i64) -> Result<u64, Errno>
-    ensures { result ≡ sought (natural (pos base +ℤ by)) }
+    ensures { result ≡ seek_offset (natural (pos base +ℤ by)) }
 {
     let Some(up) = natural(by) else {
         let at = base.checked_sub(by.unsigned_abs()).ok_or(Errno::Einval)?;
@@ -343,9 +355,9 @@ fn sought(base: u64, by: i64) -> Result<u64, Errno>
 }
 
 fn within_limit(at: u64) -> Result<u64, Errno>
-    ensures { result ≡ sought (Some at) }
+    ensures { result ≡ seek_offset (Some at) }
 {
-    if at > OFFSET_LIMIT {
+    if at > OFFSET_MAX {
         return Err(Errno::Eoverflow);
     }
     Ok(at)

@@ -19,5 +19,3 @@ mod laws;
 mod number_set;
 mod page;
 mod pages;
-#[cfg(test)]
-mod tests;

@@ -1,8 +1,9 @@
 ghost use Rattle.std.specs.Prelude.{◌≡◌, ◌<◌, Bool, true, false, length, replicate, position, slice_set};
+ghost use Rattle.wf_core.specs.Limits.{open_max};
 
 use std::marker::Model;
 
-/// A set of numbers below 1,024, seen as the list that says of each whether it is in.
+/// A set of numbers below `OPEN_MAX`, seen as the list that says of each whether it is in.
 #[derive(Drop)]
 pub(crate) struct NumberSet {
     words: [u64; 16],
@@ -18,9 +19,9 @@ impl Model for NumberSet {
 }
 
 impl NumberSet {
-    /// The set of all 1,024 numbers.
+    /// The set of all these numbers.
     pub(crate) fn full() -> NumberSet
-        ensures { result ≡ replicate 1024 true }
+        ensures { result ≡ replicate open_max true }
     {
         NumberSet {
             words: [u64::MAX; 16],
@@ -40,14 +41,14 @@ impl NumberSet {
     }
 
     pub(crate) fn insert(&mut self, number: usize)
-        requires { number < 1024 }
+        requires { number < open_max }
         ensures { self.new ≡ slice_set self.old number true }
     {
         self.words[number / 64] |= 1 << (number % 64);
     }
 
     pub(crate) fn remove(&mut self, number: usize)
-        requires { number < 1024 }
+        requires { number < open_max }
         ensures { self.new ≡ slice_set self.old number false }
     {
         self.words[number / 64] &= !(1 << (number % 64));

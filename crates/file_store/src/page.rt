@@ -1,17 +1,16 @@
 ghost use Rattle.std.specs.Prelude.{◌≡◌, ◌+◌, ◌-◌, ◌≤◌, ◌++◌, IfOk, length, take, drop, replicate};
+ghost use Rattle.wf_core.specs.Limits.{page_size};
 ghost use Rattle.file_store.specs.FileBytes.{all_zero};
 ghost use Rattle.file_store.specs.Pages.{zero_page};
 
 use std::alloc::{AllocError, Global};
 use std::marker::Model;
-
-/// The size of a page in bytes.
-pub(crate) const PAGE_SIZE: usize = 4096;
+use wf_core::PAGE_SIZE;
 
 /// A page that holds zeros.
 pub(crate) static ZEROS: [u8; PAGE_SIZE] = [0; PAGE_SIZE];
 
-/// A page of 4,096 bytes, seen as their list.
+/// A page of `PAGE_SIZE` bytes, seen as their list.
 #[derive(Drop)]
 pub(crate) struct Page {
     bytes: Vec<u8>,
@@ -19,12 +18,13 @@ pub(crate) struct Page {
 
 impl Model for Page {
     ghost use Rattle.std.specs.Prelude.{◌≡◌, ℕ, List, length};
+    ghost use Rattle.wf_core.specs.Limits.{page_size};
 
     ghost Value = { List ℕ };
 
     ghost view = { λ p. p.bytes.items };
 
-    ghost invariant = { λ p. length p.bytes.items ≡ 4096 };
+    ghost invariant = { λ p. length p.bytes.items ≡ page_size };
 }
 
 impl Page {
@@ -38,7 +38,7 @@ impl Page {
 
     pub(crate) fn as_bytes(&self) -> &[u8]
         ensures value { result.now ≡ self.now }
-        ensures size { length result.now ≡ 4096 }
+        ensures size { length result.now ≡ page_size }
     {
         self.bytes.as_slice()
     }
@@ -51,18 +51,19 @@ impl Page {
 
     /// Writes bytes that fit from `start` on.
     pub(crate) fn write(&mut self, start: usize, bytes: &[u8])
-        requires { start + length bytes.now ≤ 4096 }
-        ensures value { self.new ≡ take start self.old ++ (bytes.now ++ drop (start + length bytes.now) self.old) }
-        ensures size { length self.new ≡ 4096 }
+        requires { start + length bytes.now ≤ page_size }
+        ensures value { self.new ≡ take start self.old
+            ++ (bytes.now ++ drop (start + length bytes.now) self.old) }
+        ensures size { length self.new ≡ page_size }
     {
         self.bytes[start..start + bytes.len()].copy_from_slice(bytes);
     }
 
     /// Writes zeros from `start` to the end.
     pub(crate) fn clear_from(&mut self, start: usize)
-        requires { start ≤ 4096 }
-        ensures value { self.new ≡ take start self.old ++ replicate (4096 - start) 0 }
-        ensures size { length self.new ≡ 4096 }
+        requires { start ≤ page_size }
+        ensures value { self.new ≡ take start self.old ++ replicate (page_size - start) 0 }
+        ensures size { length self.new ≡ page_size }
     {
         self.bytes[start..].fill(0);
     }

@@ -2,13 +2,15 @@ ghost use Rattle.std.specs.Prelude.{◌≡◌, ◌≢◌, None, ◌⊎◌, ℕ, 
 ghost use Rattle.std.specs.List.Sorted.{IsStrictlySortedBy};
 ghost use Rattle.std.specs.Map.{keys_of};
 ghost use Rattle.std.specs.Ordering.{nat_cmp};
+ghost use Rattle.wf_core.specs.Limits.{page_size};
 ghost use Rattle.file_store.specs.FileBytes.{all_zero};
-ghost use Rattle.file_store.specs.Pages.{kept_page, page_at, byte_at, overlaid, AreWhole, AreTight, AreReadyFor};
+ghost use Rattle.file_store.specs.Pages.{kept_page, page_at, byte_at, overlay_byte, AreWhole, AreTight, AreReadyFor};
 
-use crate::page::{PAGE_SIZE, Page, ZEROS, is_zero};
+use crate::page::{Page, ZEROS, is_zero};
 use std::alloc::{AllocError, Global};
 use std::collections::BTreeMap;
 use std::marker::Model;
+use wf_core::PAGE_SIZE;
 
 /// The pages of a file that are kept, by their numbers. A page that is not kept is zeros.
 #[derive(Drop)]
@@ -44,10 +46,10 @@ impl Pages {
         self.pages.len()
     }
 
-    /// The 4,096 bytes of a page.
+    /// The bytes of a page.
     pub(crate) fn page(&self, page: u64) -> &[u8]
         ensures value { result.now ≡ page_at self.now page }
-        ensures size { length result.now ≡ 4096 }
+        ensures size { length result.now ≡ page_size }
     {
         match self.pages.get(&page) {
             Some(kept) => kept.as_bytes(),
@@ -55,11 +57,12 @@ impl Pages {
         }
     }
 
-    // Keeps a page into which bytes other than 0 are to be written.
+    /// Keeps a page into which bytes other than 0 are to be written.
     fn reserve_page(&mut self, alloc: Global, page: u64, piece: &[u8]) -> Result<(), AllocError>
         ensures same { (k : ℕ) → page_at self.new k ≡ page_at self.old k }
         ensures stays { (k : ℕ) → IsSome (kept_page self.old k) → IsSome (kept_page self.new k) }
-        ensures added { (k : ℕ) → IsSome (kept_page self.new k) → IsSome (kept_page self.old k) ⊎ ((k ≡ page) × (all_zero piece.now ≡ false)) }
+        ensures added { (k : ℕ) → IsSome (kept_page self.new k) → IsSome (kept_page self.old k)
+            ⊎ ((k ≡ page) × (all_zero piece.now ≡ false)) }
         ensures room { OnOk result (all_zero piece.now ≡ false → IsSome (kept_page self.new page)) }
     {
         if is_zero(piece) || self.pages.contains_key(&page) {
@@ -69,14 +72,16 @@ impl Pages {
         Ok(())
     }
 
-    // Writes bytes into a page, which is kept unless they are zeros.
+    /// Writes bytes into a page, which is kept unless they are zeros.
     fn put_piece(&mut self, page: u64, start: usize, piece: &[u8])
-        requires fits { start + length piece.now ≤ 4096 }
+        requires fits { start + length piece.now ≤ page_size }
         requires room { all_zero piece.now ≡ false → IsSome (kept_page self.old page) }
         ensures whole { AreWhole self.old }
         ensures others { (k : ℕ) → k ≢ page → kept_page self.new k ≡ kept_page self.old k }
-        ensures written { page_at self.new page ≡ take start (page_at self.old page) ++ (piece.now ++ drop (start + length piece.now) (page_at self.old page)) }
-        ensures tight { IsSome (kept_page self.new page) → all_zero (page_at self.new page) ≡ false }
+        ensures written { page_at self.new page ≡ take start (page_at self.old page)
+            ++ (piece.now ++ drop (start + length piece.now) (page_at self.old page)) }
+        ensures tight { IsSome (kept_page self.new page) → all_zero (page_at self.new page)
+            ≡ false }
     {
         let Some(kept) = self.pages.get_mut(&page) else {
             return;
@@ -87,13 +92,15 @@ impl Pages {
         }
     }
 
-    // Writes zeros into a page from `start` on.
+    /// Writes zeros into a page from `start` on.
     fn clear_tail(&mut self, page: u64, start: usize)
-        requires { start ≤ 4096 }
+        requires { start ≤ page_size }
         ensures whole { AreWhole self.old }
         ensures others { (k : ℕ) → k ≢ page → kept_page self.new k ≡ kept_page self.old k }
-        ensures written { page_at self.new page ≡ take start (page_at self.old page) ++ replicate (4096 - start) 0 }
-        ensures tight { IsSome (kept_page self.new page) → all_zero (page_at self.new page) ≡ false }
+        ensures written { page_at self.new page ≡ take start (page_at self.old page)
+            ++ replicate (page_size - start) 0 }
+        ensures tight { IsSome (kept_page self.new page) → all_zero (page_at self.new page)
+            ≡ false }
     {
         let Some(kept) = self.pages.get_mut(&page) else {
             return;
@@ -138,7 +145,8 @@ impl Pages {
     pub(crate) fn put(&mut self, offset: u64, bytes: &[u8])
         requires fits { offset + length bytes.now < 2 ^ 63 }
         requires ready { AreReadyFor self.old offset bytes.now }
-        ensures written { (i : ℕ) → byte_at self.new i ≡ overlaid (byte_at self.old) offset bytes.now i }
+        ensures written { (i : ℕ) → byte_at self.new i
+            ≡ overlay_byte (byte_at self.old) offset bytes.now i }
         ensures tight { AreTight self.new }
     {
         let mut at = offset;
@@ -154,7 +162,8 @@ impl Pages {
 
     /// Has the bytes from `size` on be zeros.
     pub(crate) fn truncate(&mut self, size: u64)
-        ensures cut { (i : ℕ) → byte_at self.new i ≡ (if nat_lt i size then byte_at self.old i else 0) }
+        ensures cut { (i : ℕ) → byte_at self.new i
+            ≡ (if nat_lt i size then byte_at self.old i else 0) }
         ensures tight { AreTight self.old → AreTight self.new }
     {
         let pages = size.div_ceil(PAGE_SIZE as u64);
@@ -165,20 +174,21 @@ impl Pages {
         }
     }
 
-    // Gives up the pages from that number on.
+    /// Gives up the pages from that number on.
     fn drop_from(&mut self, first: u64)
-        ensures { (k : ℕ) → kept_page self.new k ≡ (if nat_lt k first then kept_page self.old k else None) }
+        ensures { (k : ℕ) → kept_page self.new k
+            ≡ (if nat_lt k first then kept_page self.old k else None) }
     {
         self.pages.retain(|page, _| *page < first);
     }
 }
 
-// How many of the bytes from an offset on stand in one page.
+/// How many of the bytes from an offset on stand in one page.
 pub(crate) fn piece_size(offset: u64, count: usize) -> usize
     ensures within { result ≤ count }
-    ensures one_page { offset % 4096 + result ≤ 4096 }
+    ensures one_page { offset % page_size + result ≤ page_size }
     ensures goes_on { 0 < count → 0 < result }
-    ensures next { result < count → offset % 4096 + result ≡ 4096 }
+    ensures next { result < count → offset % page_size + result ≡ page_size }
 {
     count.min(PAGE_SIZE - (offset % PAGE_SIZE as u64) as usize)
 }

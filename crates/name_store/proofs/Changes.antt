@@ -3,7 +3,7 @@ use Rattle.std.proofs.Common.{◌≡◌, ◌≢◌, ℕ, ◌<◌, ◌≤◌, ◌
 use Rattle.std.specs.Map.{keys_of}
 use Rattle.std.specs.List.Sorted.{IsStrictlySortedBy}
 use Rattle.name_store.specs.declared.operation.Node.{Node}
-use Rattle.name_store.specs.NameTrees.{Tree, Listing, byte_order, in_slot, dir_at, entry_at, put_at, entered, unlinked, settled, freed, with_entry, without_entry, with_parent}
+use Rattle.name_store.specs.NameTrees.{Tree, Listing, byte_order, in_slot, dir_at, entry_at, with_change_at, with_entry_at, without_entry_at, with_parent_at, without_directory, with_entry, without_entry, with_parent}
 use Rattle.name_store.specs.Sound.{node_in, node_at, parent_of, parent_at}
 use Rattle.name_store.proofs.Entries.{same_name, apart_names, entered_here, entered_other, removed_here, removed_other}
 
@@ -54,16 +54,16 @@ get_within (first ∷ tree) (suc id) slot h = let k = get_within tree id slot h 
 pub dir_within : (tree : Tree) (id : ℕ) (directory : Listing) → dir_at tree id ≡ Some directory → id < length tree
 dir_within tree id directory h = get_within tree id (Some directory) (slot_of (slice_get tree id) directory h)
 
-pub length_put : (tree : Tree) (id : ℕ) (change : Listing → Listing) (directory : Option Listing) → length (put_at tree id change directory) ≡ length tree
+pub length_put : (tree : Tree) (id : ℕ) (change : Listing → Listing) (directory : Option Listing) → length (with_change_at tree id change directory) ≡ length tree
 length_put tree id change None = refl
 length_put tree id change (Some directory) = length-set tree id (Some (change directory))
 
 -- a directory that was changed, and the others
-pub put_same : (tree : Tree) (id : ℕ) (change : Listing → Listing) (directory : Option Listing) → dir_at tree id ≡ directory → dir_at (put_at tree id change directory) id ≡ option_map change directory
+pub put_same : (tree : Tree) (id : ℕ) (change : Listing → Listing) (directory : Option Listing) → dir_at tree id ≡ directory → dir_at (with_change_at tree id change directory) id ≡ option_map change directory
 put_same tree id change None h = h
 put_same tree id change (Some directory) h = ap in_slot (get_set_same tree id (Some directory) (Some (change directory)) (slot_of (slice_get tree id) directory h))
 
-put_other : (tree : Tree) (id other : ℕ) (change : Listing → Listing) (directory : Option Listing) → other ≢ id → dir_at (put_at tree id change directory) other ≡ dir_at tree other
+put_other : (tree : Tree) (id other : ℕ) (change : Listing → Listing) (directory : Option Listing) → other ≢ id → dir_at (with_change_at tree id change directory) other ≡ dir_at tree other
 put_other tree id other change None ne = refl
 put_other tree id other change (Some directory) ne = ap in_slot (get_set_other tree id other (Some (change directory)) ne)
 
@@ -73,7 +73,7 @@ pub record Changes (before after : Tree) (id : ℕ) (change : Listing → Listin
   pub here : dir_at after id ≡ option_map change (dir_at before id)
   pub others : (other : ℕ) → other ≢ id → dir_at after other ≡ dir_at before other
 
-pub put_changes : (tree : Tree) (id : ℕ) (change : Listing → Listing) → Changes tree (put_at tree id change (dir_at tree id)) id change
+pub put_changes : (tree : Tree) (id : ℕ) (change : Listing → Listing) → Changes tree (with_change_at tree id change (dir_at tree id)) id change
 put_changes tree id change = record {
   size = length_put tree id change (dir_at tree id);
   here = put_same tree id change (dir_at tree id) refl;
@@ -97,37 +97,37 @@ pub same_node_in : (change : Listing → Listing) (directory : Option Listing) (
 same_node_in change None name h = refl
 same_node_in change (Some directory) name h = h directory
 
-pub entered_parents : (tree : Tree) (id : ℕ) (name : List ℕ) (node : Node) (other : ℕ) → parent_at (entered tree id name node) other ≡ parent_at tree other
+pub entered_parents : (tree : Tree) (id : ℕ) (name : List ℕ) (node : Node) (other : ℕ) → parent_at (with_entry_at tree id name node) other ≡ parent_at tree other
 entered_parents tree id name node other = same_parents tree _ id (λ d. with_entry d name node) (put_changes tree id (λ d. with_entry d name node)) (λ d. refl) other
 
-pub entered_size : (tree : Tree) (id : ℕ) (name : List ℕ) (node : Node) → length (entered tree id name node) ≡ length tree
+pub entered_size : (tree : Tree) (id : ℕ) (name : List ℕ) (node : Node) → length (with_entry_at tree id name node) ≡ length tree
 entered_size tree id name node = length_put tree id (λ d. with_entry d name node) (dir_at tree id)
 
 there_in : (directory : Option Listing) (parent : ℕ) (name : List ℕ) (node : Node) → parent_of directory ≡ Some parent → node_in (option_map (λ d. with_entry d name node) directory) name ≡ Some node
 there_in None parent name node h = cc
 there_in (Some directory) parent name node h = entered_here directory.entries name node
 
-pub entered_at : (tree : Tree) (id parent : ℕ) (name : List ℕ) (node : Node) → parent_at tree id ≡ Some parent → node_at (entered tree id name node) id name ≡ Some node
+pub entered_at : (tree : Tree) (id parent : ℕ) (name : List ℕ) (node : Node) → parent_at tree id ≡ Some parent → node_at (with_entry_at tree id name node) id name ≡ Some node
 entered_at tree id parent name node h =
     ap (λ (d : Option Listing). node_in d name) (put_changes tree id (λ d. with_entry d name node)).here
     ∙ there_in (dir_at tree id) parent name node h
 
-pub entered_apart : (tree : Tree) (id : ℕ) (name : List ℕ) (node : Node) (first : ℕ) (other : List ℕ) → Apart id name first other → node_at (entered tree id name node) first other ≡ node_at tree first other
+pub entered_apart : (tree : Tree) (id : ℕ) (name : List ℕ) (node : Node) (first : ℕ) (other : List ℕ) → Apart id name first other → node_at (with_entry_at tree id name node) first other ≡ node_at tree first other
 entered_apart tree id name node first other apart =
     let c = put_changes tree id (λ d. with_entry d name node) in
     elim (same_id first id) [
       | inl e ↦
-          ap (λ (i : ℕ). node_at (entered tree id name node) i other) e
+          ap (λ (i : ℕ). node_at (with_entry_at tree id name node) i other) e
           ∙ ap (λ (d : Option Listing). node_in d other) c.here
           ∙ same_node_in (λ d. with_entry d name node) (dir_at tree id) other (λ d. entered_other d.entries name other node (apart e))
           ∙ ap (λ (i : ℕ). node_at tree i other) (sym e)
       | inr ne ↦ ap (λ (d : Option Listing). node_in d other) (c.others first ne)
     ]
 
-pub unlinked_parents : (tree : Tree) (id : ℕ) (name : List ℕ) (other : ℕ) → parent_at (unlinked tree id name) other ≡ parent_at tree other
+pub unlinked_parents : (tree : Tree) (id : ℕ) (name : List ℕ) (other : ℕ) → parent_at (without_entry_at tree id name) other ≡ parent_at tree other
 unlinked_parents tree id name other = same_parents tree _ id (λ d. without_entry d name) (put_changes tree id (λ d. without_entry d name)) (λ d. refl) other
 
-pub unlinked_size : (tree : Tree) (id : ℕ) (name : List ℕ) → length (unlinked tree id name) ≡ length tree
+pub unlinked_size : (tree : Tree) (id : ℕ) (name : List ℕ) → length (without_entry_at tree id name) ≡ length tree
 unlinked_size tree id name = length_put tree id (λ d. without_entry d name) (dir_at tree id)
 
 gone_in : (directory : Option Listing) (name : List ℕ) → ((d : Listing) → directory ≡ Some d → IsStrictlySortedBy byte_order (keys_of d.entries)) → node_in (option_map (λ d. without_entry d name) directory) name ≡ None
@@ -138,56 +138,56 @@ gone_in (Some directory) name sorted = removed_here directory.entries name (sort
 abbrev pub Ordered : Tree → ℕ → Type 0
 Ordered tree id = (directory : Listing) → dir_at tree id ≡ Some directory → IsStrictlySortedBy byte_order (keys_of directory.entries)
 
-pub unlinked_at : (tree : Tree) (id : ℕ) (name : List ℕ) → Ordered tree id → node_at (unlinked tree id name) id name ≡ None
+pub unlinked_at : (tree : Tree) (id : ℕ) (name : List ℕ) → Ordered tree id → node_at (without_entry_at tree id name) id name ≡ None
 unlinked_at tree id name sorted =
     ap (λ (d : Option Listing). node_in d name) (put_changes tree id (λ d. without_entry d name)).here
     ∙ gone_in (dir_at tree id) name sorted
 
-pub unlinked_apart : (tree : Tree) (id : ℕ) (name : List ℕ) (first : ℕ) (other : List ℕ) → Apart id name first other → node_at (unlinked tree id name) first other ≡ node_at tree first other
+pub unlinked_apart : (tree : Tree) (id : ℕ) (name : List ℕ) (first : ℕ) (other : List ℕ) → Apart id name first other → node_at (without_entry_at tree id name) first other ≡ node_at tree first other
 unlinked_apart tree id name first other apart =
     let c = put_changes tree id (λ d. without_entry d name) in
     elim (same_id first id) [
       | inl e ↦
-          ap (λ (i : ℕ). node_at (unlinked tree id name) i other) e
+          ap (λ (i : ℕ). node_at (without_entry_at tree id name) i other) e
           ∙ ap (λ (d : Option Listing). node_in d other) c.here
           ∙ same_node_in (λ d. without_entry d name) (dir_at tree id) other (λ d. removed_other d.entries name other (apart e))
           ∙ ap (λ (i : ℕ). node_at tree i other) (sym e)
       | inr ne ↦ ap (λ (d : Option Listing). node_in d other) (c.others first ne)
     ]
 
-pub settled_nodes : (tree : Tree) (id : Option ℕ) (parent first : ℕ) (other : List ℕ) → node_at (settled tree id parent) first other ≡ node_at tree first other
-settled_nodes tree None parent first other = refl
-settled_nodes tree (Some id) parent first other =
+pub parent_set_nodes : (tree : Tree) (id : Option ℕ) (parent first : ℕ) (other : List ℕ) → node_at (with_parent_at tree id parent) first other ≡ node_at tree first other
+parent_set_nodes tree None parent first other = refl
+parent_set_nodes tree (Some id) parent first other =
     let c = put_changes tree id (λ d. with_parent d parent) in
     elim (same_id first id) [
       | inl e ↦
-          ap (λ (i : ℕ). node_at (settled tree (Some id) parent) i other) e
+          ap (λ (i : ℕ). node_at (with_parent_at tree (Some id) parent) i other) e
           ∙ ap (λ (d : Option Listing). node_in d other) c.here
           ∙ same_node_in (λ d. with_parent d parent) (dir_at tree id) other (λ d. refl)
           ∙ ap (λ (i : ℕ). node_at tree i other) (sym e)
       | inr ne ↦ ap (λ (d : Option Listing). node_in d other) (c.others first ne)
     ]
 
-settled_in : (directory : Option Listing) (old parent : ℕ) → parent_of directory ≡ Some old → parent_of (option_map (λ d. with_parent d parent) directory) ≡ Some parent
-settled_in None old parent h = cc
-settled_in (Some directory) old parent h = refl
+parent_set_in : (directory : Option Listing) (old parent : ℕ) → parent_of directory ≡ Some old → parent_of (option_map (λ d. with_parent d parent) directory) ≡ Some parent
+parent_set_in None old parent h = cc
+parent_set_in (Some directory) old parent h = refl
 
-pub settled_at : (tree : Tree) (id old parent : ℕ) → parent_at tree id ≡ Some old → parent_at (settled tree (Some id) parent) id ≡ Some parent
-settled_at tree id old parent h = ap parent_of (put_changes tree id (λ d. with_parent d parent)).here ∙ settled_in (dir_at tree id) old parent h
+pub parent_set_at : (tree : Tree) (id old parent : ℕ) → parent_at tree id ≡ Some old → parent_at (with_parent_at tree (Some id) parent) id ≡ Some parent
+parent_set_at tree id old parent h = ap parent_of (put_changes tree id (λ d. with_parent d parent)).here ∙ parent_set_in (dir_at tree id) old parent h
 
-pub settled_others : (tree : Tree) (id : Option ℕ) (parent other : ℕ) → (id ≡ Some other → ⊥) → parent_at (settled tree id parent) other ≡ parent_at tree other
-settled_others tree None parent other ne = refl
-settled_others tree (Some id) parent other ne = ap parent_of ((put_changes tree id (λ d. with_parent d parent)).others other (λ e. ne (ap (λ (i : ℕ). let o : Option ℕ = Some i in o) (sym e))))
+pub parent_set_others : (tree : Tree) (id : Option ℕ) (parent other : ℕ) → (id ≡ Some other → ⊥) → parent_at (with_parent_at tree id parent) other ≡ parent_at tree other
+parent_set_others tree None parent other ne = refl
+parent_set_others tree (Some id) parent other ne = ap parent_of ((put_changes tree id (λ d. with_parent d parent)).others other (λ e. ne (ap (λ (i : ℕ). let o : Option ℕ = Some i in o) (sym e))))
 
-pub settled_size : (tree : Tree) (id : Option ℕ) (parent : ℕ) → length (settled tree id parent) ≡ length tree
-settled_size tree None parent = refl
-settled_size tree (Some id) parent = length_put tree id (λ d. with_parent d parent) (dir_at tree id)
+pub parent_set_size : (tree : Tree) (id : Option ℕ) (parent : ℕ) → length (with_parent_at tree id parent) ≡ length tree
+parent_set_size tree None parent = refl
+parent_set_size tree (Some id) parent = length_put tree id (λ d. with_parent d parent) (dir_at tree id)
 
-pub freed_size : (tree : Tree) (id : Option ℕ) → length (freed tree id) ≡ length tree
+pub freed_size : (tree : Tree) (id : Option ℕ) → length (without_directory tree id) ≡ length tree
 freed_size tree None = refl
 freed_size tree (Some id) = length-set tree id None
 
-pub freed_others : (tree : Tree) (id : Option ℕ) (other : ℕ) → (id ≡ Some other → ⊥) → dir_at (freed tree id) other ≡ dir_at tree other
+pub freed_others : (tree : Tree) (id : Option ℕ) (other : ℕ) → (id ≡ Some other → ⊥) → dir_at (without_directory tree id) other ≡ dir_at tree other
 freed_others tree None other ne = refl
 freed_others tree (Some id) other ne = ap in_slot (get_set_other tree id other None (λ e. ne (ap (λ (i : ℕ). let o : Option ℕ = Some i in o) (sym e))))
 
@@ -196,8 +196,8 @@ freed_slot [] id = refl
 freed_slot (first ∷ tree) zero = refl
 freed_slot (first ∷ tree) (suc id) = freed_slot tree id
 
-pub freed_at : (tree : Tree) (id other : ℕ) → other ≡ id → dir_at (freed tree (Some id)) other ≡ None
-freed_at tree id other e = ap (dir_at (freed tree (Some id))) e ∙ freed_slot tree id
+pub freed_at : (tree : Tree) (id other : ℕ) → other ≡ id → dir_at (without_directory tree (Some id)) other ≡ None
+freed_at tree id other e = ap (dir_at (without_directory tree (Some id))) e ∙ freed_slot tree id
 
 -- one id more
 pub more_at : (tree : Tree) (slot : Option Listing) → dir_at (tree ++ slot ∷ []) (length tree) ≡ slot

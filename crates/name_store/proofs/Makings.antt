@@ -2,7 +2,7 @@
 use Rattle.std.proofs.Common.{◌≡◌, ℕ, ◌+◌, inl, inr, List, [], ◌∷◌, ◌++◌, length, Option, None, Some, refl, sym, ap, ◌∙◌, arith}
 use Rattle.name_store.specs.declared.operation.Node.{Node}
 use Rattle.name_store.specs.declared.operation.Node.TheVariants.{Dir, Link, File}
-use Rattle.name_store.specs.NameTrees.{Tree, Listing, dir_at, entry_at, empty_in, entered, grown, linked}
+use Rattle.name_store.specs.NameTrees.{Tree, Listing, dir_at, entry_at, empty_in, with_entry_at, with_new_directory, with_new_link}
 use Rattle.name_store.specs.Sound.{node_in, node_at, parent_of, parent_at, IsSound}
 use Rattle.name_store.proofs.Changes.{past, same_id, entered_parents, entered_size, entered_at, entered_apart, more_at, more_none, more_others, more_size}
 use Rattle.name_store.proofs.Transitions.{grows}
@@ -18,8 +18,8 @@ module _ (tree : Tree) (id : ℕ) (name : List ℕ) (directory : Listing) (sound
   no_next : parent_at tree (length tree) ≡ None
   no_next = ap parent_of (past tree (length tree) (omega arith))
 
-  pub filed_sound : (file : ℕ) → IsSound (entered tree id name (File file))
-  filed_sound file = grows tree (entered tree id name (File file)) id name (File file) None sound (record {
+  pub filed_sound : (file : ℕ) → IsSound (with_entry_at tree id name (File file))
+  filed_sound file = grows tree (with_entry_at tree id name (File file)) id name (File file) None sound (record {
     absent = is_absent;
     there = (directory.parent, is_there);
     at = entered_at tree id directory.parent name (File file) is_there;
@@ -36,16 +36,16 @@ module _ (tree : Tree) (id : ℕ) (name : List ℕ) (directory : Listing) (sound
 
   -- the tree with one entry more
   abbrev with_one : Node → Tree
-  with_one node = entered tree id name node
+  with_one node = with_entry_at tree id name node
 
   more_size_is : (node : Node) (slot : Option Listing) → length (with_one node ++ slot ∷ []) ≡ length tree + 1
   more_size_is node slot = more_size (with_one node) slot ∙ ap (λ (n : ℕ). n + 1) (entered_size tree id name node)
 
-  linked_size : (text : List ℕ) → length (linked tree id name text) ≡ length tree + 1
+  linked_size : (text : List ℕ) → length (with_new_link tree id name text) ≡ length tree + 1
   linked_size text = more_size_is (Link (length tree) text) None
 
-  pub linked_sound : (text : List ℕ) → IsSound (linked tree id name text)
-  linked_sound text = grows tree (linked tree id name text) id name (Link (length tree) text) None sound (record {
+  pub linked_sound : (text : List ℕ) → IsSound (with_new_link tree id name text)
+  linked_sound text = grows tree (with_new_link tree id name text) id name (Link (length tree) text) None sound (record {
     absent = is_absent;
     there = (directory.parent, is_there);
     at = ap (λ (d : Option Listing). node_in d name) (more_none (with_one (Link (length tree) text)) id) ∙ entered_at tree id directory.parent name (Link (length tree) text) is_there;
@@ -68,27 +68,27 @@ module _ (tree : Tree) (id : ℕ) (name : List ℕ) (directory : Listing) (sound
   before_size = entered_size tree id name (Dir (length tree))
 
   -- the new directory has no entries
-  grown_node : (first : ℕ) (other : List ℕ) → node_at (grown tree id name) first other ≡ node_at before first other
+  grown_node : (first : ℕ) (other : List ℕ) → node_at (with_new_directory tree id name) first other ≡ node_at before first other
   grown_node first other =
       elim (same_id first (length before)) [
         | inl e ↦
-            ap (λ (i : ℕ). node_at (grown tree id name) i other) e
+            ap (λ (i : ℕ). node_at (with_new_directory tree id name) i other) e
             ∙ ap (λ (d : Option Listing). node_in d other) (more_at before (Some (empty_in id)))
             ∙ sym (ap (λ (d : Option Listing). node_in d other) (past before (length before) (omega arith)))
             ∙ ap (λ (i : ℕ). node_at before i other) (sym e)
         | inr ne ↦ ap (λ (d : Option Listing). node_in d other) (more_others before (Some (empty_in id)) first ne)
       ]
 
-  grown_size : length (grown tree id name) ≡ length tree + 1
+  grown_size : length (with_new_directory tree id name) ≡ length tree + 1
   grown_size = more_size_is (Dir (length tree)) (Some (empty_in id))
 
-  grown_last : parent_at (grown tree id name) (length tree) ≡ Some id
+  grown_last : parent_at (with_new_directory tree id name) (length tree) ≡ Some id
   grown_last =
-      ap (parent_at (grown tree id name)) (sym before_size)
+      ap (parent_at (with_new_directory tree id name)) (sym before_size)
       ∙ ap parent_of (more_at before (Some (empty_in id)))
 
-  pub grown_sound : IsSound (grown tree id name)
-  grown_sound = grows tree (grown tree id name) id name (Dir (length tree)) (Some id) sound (record {
+  pub grown_sound : IsSound (with_new_directory tree id name)
+  grown_sound = grows tree (with_new_directory tree id name) id name (Dir (length tree)) (Some id) sound (record {
     absent = is_absent;
     there = (directory.parent, is_there);
     at = grown_node id name ∙ entered_at tree id directory.parent name (Dir (length tree)) is_there;

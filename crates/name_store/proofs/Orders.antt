@@ -3,7 +3,7 @@ use Rattle.std.proofs.Common.{◌≡◌, ℕ, inl, inr, List, [], ◌∷◌, ◌
 use Rattle.std.specs.Map.{keys_of}
 use Rattle.std.specs.List.Sorted.{IsStrictlySortedBy}
 use Rattle.name_store.specs.declared.operation.Node.{Node}
-use Rattle.name_store.specs.NameTrees.{Tree, Listing, byte_order, dir_at, empty_in, entered, unlinked, settled, freed, put_at, with_entry, without_entry, with_parent}
+use Rattle.name_store.specs.NameTrees.{Tree, Listing, byte_order, dir_at, empty_in, with_entry_at, without_entry_at, with_parent_at, without_directory, with_change_at, with_entry, without_entry, with_parent}
 use Rattle.name_store.proofs.Entries.{entered_sorted, removed_sorted}
 use Rattle.name_store.proofs.Changes.{Ordered, put_changes, same_id, freed_at, freed_others, more_at, more_none, more_others}
 
@@ -16,29 +16,29 @@ changed_sorted change (Some old) directory all h e =
     let same : change old ≡ directory = cc in
     subst Sorted same (h old (all old refl))
 
-put_names : (tree : Tree) (id : ℕ) (change : Listing → Listing) → ((d : Listing) → Sorted d → Sorted (change d)) → ((other : ℕ) → Ordered tree other) → (other : ℕ) → Ordered (put_at tree id change (dir_at tree id)) other
+put_names : (tree : Tree) (id : ℕ) (change : Listing → Listing) → ((d : Listing) → Sorted d → Sorted (change d)) → ((other : ℕ) → Ordered tree other) → (other : ℕ) → Ordered (with_change_at tree id change (dir_at tree id)) other
 put_names tree id change h all other directory e =
     let c = put_changes tree id change in
     elim (same_id other id) [
-      | inl same ↦ changed_sorted change (dir_at tree id) directory (all id) h (sym c.here ∙ ap (dir_at (put_at tree id change (dir_at tree id))) (sym same) ∙ e)
+      | inl same ↦ changed_sorted change (dir_at tree id) directory (all id) h (sym c.here ∙ ap (dir_at (with_change_at tree id change (dir_at tree id))) (sym same) ∙ e)
       | inr ne ↦ all other directory (sym (c.others other ne) ∙ e)
     ]
 
-pub entered_names : (tree : Tree) (id : ℕ) (name : List ℕ) (node : Node) → ((other : ℕ) → Ordered tree other) → (other : ℕ) → Ordered (entered tree id name node) other
+pub entered_names : (tree : Tree) (id : ℕ) (name : List ℕ) (node : Node) → ((other : ℕ) → Ordered tree other) → (other : ℕ) → Ordered (with_entry_at tree id name node) other
 entered_names tree id name node all = put_names tree id (λ d. with_entry d name node) (λ d h. entered_sorted d.entries name node h) all
 
-pub unlinked_names : (tree : Tree) (id : ℕ) (name : List ℕ) → ((other : ℕ) → Ordered tree other) → (other : ℕ) → Ordered (unlinked tree id name) other
+pub unlinked_names : (tree : Tree) (id : ℕ) (name : List ℕ) → ((other : ℕ) → Ordered tree other) → (other : ℕ) → Ordered (without_entry_at tree id name) other
 unlinked_names tree id name all = put_names tree id (λ d. without_entry d name) (λ d h. removed_sorted d.entries name h) all
 
-pub settled_names : (tree : Tree) (id : Option ℕ) (parent : ℕ) → ((other : ℕ) → Ordered tree other) → (other : ℕ) → Ordered (settled tree id parent) other
-settled_names tree None parent all = all
-settled_names tree (Some id) parent all = put_names tree id (λ d. with_parent d parent) (λ d h. h) all
+pub parent_set_names : (tree : Tree) (id : Option ℕ) (parent : ℕ) → ((other : ℕ) → Ordered tree other) → (other : ℕ) → Ordered (with_parent_at tree id parent) other
+parent_set_names tree None parent all = all
+parent_set_names tree (Some id) parent all = put_names tree id (λ d. with_parent d parent) (λ d h. h) all
 
-pub freed_names : (tree : Tree) (id : Option ℕ) → ((other : ℕ) → Ordered tree other) → (other : ℕ) → Ordered (freed tree id) other
+pub freed_names : (tree : Tree) (id : Option ℕ) → ((other : ℕ) → Ordered tree other) → (other : ℕ) → Ordered (without_directory tree id) other
 freed_names tree None all other directory e = all other directory e
 freed_names tree (Some id) all other directory e =
     elim (same_id other id) [
-      | inl same ↦ (let none : dir_at (freed tree (Some id)) other ≡ None = freed_at tree id other same in cc)
+      | inl same ↦ (let none : dir_at (without_directory tree (Some id)) other ≡ None = freed_at tree id other same in cc)
       | inr ne ↦ all other directory (sym (freed_others tree (Some id) other (λ h. ne (cc))) ∙ e)
     ]
 

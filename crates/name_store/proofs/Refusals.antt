@@ -8,40 +8,40 @@ use Rattle.name_store.specs.declared.operation.NameOp.{NameOp}
 use Rattle.name_store.specs.declared.operation.NameOp.TheVariants.{Look, Parent, Makedir, Addlink, Addfile, Remfile, Remdir, Move, List as ListOp}
 use Rattle.name_store.specs.declared.operation.NameAnswer.{NameAnswer}
 use Rattle.name_store.specs.declared.operation.NameAnswer.TheVariants.{Same}
-use Rattle.name_store.specs.NameTrees.{Tree, Listing, Outcome, dir_at, entry_at, filed_beside, filed_in, is_empty, is_same_entry, leaves, linked_beside, linked_in, made_beside, made_in, mount_fault, move_answer, move_fault, moved, moved_in, moved_node, nstep, over_fault, removed_dir, removed_dir_in, removed_empty, removed_file, removed_file_in, stays, unless}
+use Rattle.name_store.specs.NameTrees.{Tree, Listing, NamesOutcome, dir_at, entry_at, addfile_outcome_at, addfile_outcome, is_empty, is_same_entry, outcome_of, addlink_outcome_at, addlink_outcome, makedir_outcome_at, makedir_outcome, mount_fault, move_answer, move_fault, after_move, move_outcome, move_outcome_at, nstep, over_fault, remdir_outcome_at, remdir_outcome, remdir_child_outcome, remfile_outcome_at, remfile_outcome, unless_refused}
 use Rattle.name_store.specs.Sound.{IsSound}
 use Rattle.name_store.specs.Laws.{LeavesTree}
 use Rattle.name_store.proofs.Soundness.{step_sound}
 
-abbrev Keeps : Tree → Outcome → Type 0
+abbrev Keeps : Tree → NamesOutcome → Type 0
 Keeps tree outcome = LeavesTree outcome.answer → outcome.tree ≡ tree
 
 module _ (tree : Tree) where
-  made_keeps : (id : ℕ) (name : List ℕ) (node : Option Node) → Keeps tree (made_beside tree id name node)
+  made_keeps : (id : ℕ) (name : List ℕ) (node : Option Node) → Keeps tree (makedir_outcome_at tree id name node)
   made_keeps id name (Some node) = λ h. refl
   made_keeps id name None = λ h. absurd h
 
-  made_in_keeps : (id : ℕ) (name : List ℕ) (directory : Option Listing) → Keeps tree (made_in tree id name directory)
+  made_in_keeps : (id : ℕ) (name : List ℕ) (directory : Option Listing) → Keeps tree (makedir_outcome tree id name directory)
   made_in_keeps id name None = λ h. refl
   made_in_keeps id name (Some directory) = made_keeps id name (entry_at directory name)
 
-  linked_keeps : (id : ℕ) (name text : List ℕ) (node : Option Node) → Keeps tree (linked_beside tree id name text node)
+  linked_keeps : (id : ℕ) (name text : List ℕ) (node : Option Node) → Keeps tree (addlink_outcome_at tree id name text node)
   linked_keeps id name text (Some node) = λ h. refl
   linked_keeps id name text None = λ h. absurd h
 
-  linked_in_keeps : (id : ℕ) (name text : List ℕ) (directory : Option Listing) → Keeps tree (linked_in tree id name text directory)
+  linked_in_keeps : (id : ℕ) (name text : List ℕ) (directory : Option Listing) → Keeps tree (addlink_outcome tree id name text directory)
   linked_in_keeps id name text None = λ h. refl
   linked_in_keeps id name text (Some directory) = linked_keeps id name text (entry_at directory name)
 
-  filed_keeps : (id : ℕ) (name : List ℕ) (file : ℕ) (node : Option Node) → Keeps tree (filed_beside tree id name file node)
+  filed_keeps : (id : ℕ) (name : List ℕ) (file : ℕ) (node : Option Node) → Keeps tree (addfile_outcome_at tree id name file node)
   filed_keeps id name file (Some node) = λ h. refl
   filed_keeps id name file None = λ h. absurd h
 
-  filed_in_keeps : (id : ℕ) (name : List ℕ) (file : ℕ) (directory : Option Listing) → Keeps tree (filed_in tree id name file directory)
+  filed_in_keeps : (id : ℕ) (name : List ℕ) (file : ℕ) (directory : Option Listing) → Keeps tree (addfile_outcome tree id name file directory)
   filed_in_keeps id name file None = λ h. refl
   filed_in_keeps id name file (Some directory) = filed_keeps id name file (entry_at directory name)
 
-  file_keeps : (id : ℕ) (name : List ℕ) (slash : Bool) (node : Option Node) → Keeps tree (removed_file tree id name slash node)
+  file_keeps : (id : ℕ) (name : List ℕ) (slash : Bool) (node : Option Node) → Keeps tree (remfile_outcome_at tree id name slash node)
   file_keeps id name slash None = λ h. refl
   file_keeps id name slash (Some (Dir child)) = λ h. refl
   file_keeps id name slash (Some (Mount backend)) = λ h. refl
@@ -50,50 +50,50 @@ module _ (tree : Tree) where
   file_keeps id name false (Some (File file)) = λ h. absurd h
   file_keeps id name false (Some (Link link text)) = λ h. absurd h
 
-  file_in_keeps : (id : ℕ) (name : List ℕ) (slash : Bool) (directory : Option Listing) → Keeps tree (removed_file_in tree id name slash directory)
+  file_in_keeps : (id : ℕ) (name : List ℕ) (slash : Bool) (directory : Option Listing) → Keeps tree (remfile_outcome tree id name slash directory)
   file_in_keeps id name slash None = λ h. refl
   file_in_keeps id name slash (Some directory) = file_keeps id name slash (entry_at directory name)
 
-  empty_keeps : (id : ℕ) (name : List ℕ) (child : ℕ) (empty : Bool) → Keeps tree (removed_empty tree id name child empty)
+  empty_keeps : (id : ℕ) (name : List ℕ) (child : ℕ) (empty : Bool) → Keeps tree (remdir_child_outcome tree id name child empty)
   empty_keeps id name child false = λ h. refl
   empty_keeps id name child true = λ h. absurd h
 
-  dir_keeps : (id : ℕ) (name : List ℕ) (node : Option Node) → Keeps tree (removed_dir tree id name node)
+  dir_keeps : (id : ℕ) (name : List ℕ) (node : Option Node) → Keeps tree (remdir_outcome_at tree id name node)
   dir_keeps id name None = λ h. refl
   dir_keeps id name (Some (Mount backend)) = λ h. refl
   dir_keeps id name (Some (File file)) = λ h. refl
   dir_keeps id name (Some (Link link text)) = λ h. refl
   dir_keeps id name (Some (Dir child)) = empty_keeps id name child (is_empty (dir_at tree child))
 
-  dir_in_keeps : (id : ℕ) (name : List ℕ) (directory : Option Listing) → Keeps tree (removed_dir_in tree id name directory)
+  dir_in_keeps : (id : ℕ) (name : List ℕ) (directory : Option Listing) → Keeps tree (remdir_outcome tree id name directory)
   dir_in_keeps id name None = λ h. refl
   dir_in_keeps id name (Some directory) = dir_keeps id name (entry_at directory name)
 
-  unless_keeps : (fault : Option Errno) (outcome : Outcome) → Keeps tree outcome → Keeps tree (unless fault tree outcome)
+  unless_keeps : (fault : Option Errno) (outcome : NamesOutcome) → Keeps tree outcome → Keeps tree (unless_refused fault tree outcome)
   unless_keeps None outcome h = h
   unless_keeps (Some error) outcome h = λ l. refl
 
-  same_keeps : (same : Bool) (outcome : Outcome) → Keeps tree outcome → Keeps tree (if same then stays tree Same else outcome)
+  same_keeps : (same : Bool) (outcome : NamesOutcome) → Keeps tree outcome → Keeps tree (if same then outcome_of tree Same else outcome)
   same_keeps true outcome h = λ l. refl
   same_keeps false outcome h = h
 
-  answer_keeps : (new : Tree) (over : Option Node) → Keeps tree (leaves new (move_answer over))
+  answer_keeps : (new : Tree) (over : Option Node) → Keeps tree (outcome_of new (move_answer over))
   answer_keeps new None = λ h. absurd h
   answer_keeps new (Some (Dir id)) = λ h. absurd h
   answer_keeps new (Some (Link id text)) = λ h. absurd h
   answer_keeps new (Some (File file)) = λ h. absurd h
   answer_keeps new (Some (Mount backend)) = λ h. absurd h
 
-  node_keeps : (from : ℕ) (name : List ℕ) (to : ℕ) (other : List ℕ) (slash : Bool) (node over : Option Node) → Keeps tree (moved_node tree from name to other slash node over)
+  node_keeps : (from : ℕ) (name : List ℕ) (to : ℕ) (other : List ℕ) (slash : Bool) (node over : Option Node) → Keeps tree (move_outcome_at tree from name to other slash node over)
   node_keeps from name to other slash None over = λ h. refl
   node_keeps from name to other slash (Some node) over =
       unless_keeps (move_fault tree node to slash) _
       (unless_keeps (mount_fault over) _
       (same_keeps (is_same_entry from name to other) _
       (unless_keeps (over_fault tree node over) _
-      (answer_keeps (moved tree from name to other node over) over))))
+      (answer_keeps (after_move tree from name to other node over) over))))
 
-  move_keeps : (from : ℕ) (name : List ℕ) (to : ℕ) (other : List ℕ) (slash : Bool) (source target : Option Listing) → Keeps tree (moved_in tree from name to other slash source target)
+  move_keeps : (from : ℕ) (name : List ℕ) (to : ℕ) (other : List ℕ) (slash : Bool) (source target : Option Listing) → Keeps tree (move_outcome tree from name to other slash source target)
   move_keeps from name to other slash None target = λ h. refl
   move_keeps from name to other slash (Some source) None = λ h. refl
   move_keeps from name to other slash (Some source) (Some target) = node_keeps from name to other slash (entry_at source name) (entry_at target other)
@@ -113,8 +113,8 @@ refused_same tree (ListOp id start) = λ h. refl
 pub step_unchanged : (old new : Tree) (op : NameOp) (r : Result NameAnswer AllocError) → IfOk r (λ answer. nstep old op ≡ record { tree = new; answer = answer }) → IfOk r (λ answer. LeavesTree answer → new ≡ old)
 step_unchanged old new op (Err error) h = tt
 step_unchanged old new op (Ok answer) h = λ l.
-    ap (λ (o : Outcome). o.tree) (sym h) ∙ refused_same old op (subst (λ (o : Outcome). LeavesTree o.answer) (sym h) l)
+    ap (λ (o : NamesOutcome). o.tree) (sym h) ∙ refused_same old op (subst (λ (o : NamesOutcome). LeavesTree o.answer) (sym h) l)
 
 pub step_keeps_sound : (old new : Tree) (op : NameOp) (r : Result NameAnswer AllocError) → IsSound old → IfOk r (λ answer. nstep old op ≡ record { tree = new; answer = answer }) → OnErr r (new ≡ old) → IsSound new
 step_keeps_sound old new op (Err error) sound h same = subst IsSound (sym same) sound
-step_keeps_sound old new op (Ok answer) sound h same = subst (λ (o : Outcome). IsSound o.tree) h (step_sound old op sound)
+step_keeps_sound old new op (Ok answer) sound h same = subst (λ (o : NamesOutcome). IsSound o.tree) h (step_sound old op sound)

@@ -3,7 +3,7 @@ use Rattle.std.proofs.Common.{◌≡◌, ℕ, ◌<◌, zero, suc, List, [], ◌�
 use Rattle.std.specs.declared.alloc.AllocError.{AllocError}
 use Rattle.std.proofs.lemmas.Option.{slice_get_read}
 use Rattle.name_store.specs.declared.operation.Node.{Node}
-use Rattle.name_store.specs.NameTrees.{Tree, Listing, in_slot, dir_at, put_at, entered, with_entry}
+use Rattle.name_store.specs.NameTrees.{Tree, Listing, in_slot, dir_at, with_change_at, with_entry_at, with_entry}
 
 -- putting back what is there changes nothing
 put_back : (tree : Tree) (id : ℕ) (slot : Option Listing) → slice_get tree id ≡ Some slot → slice_set tree id slot ≡ tree
@@ -16,31 +16,26 @@ put_back (first ∷ tree) (suc id) slot h = ap (λ (rest : Tree). first ∷ rest
 pub put_back_read : (tree : Tree) (id : ℕ) (slot : Option Listing) → id < length tree → slot ≡ get_or tree id slot → slice_set tree id slot ≡ tree
 put_back_read tree id slot within is = put_back tree id slot (slice_get_read tree (length tree) id slot refl within is)
 
-put_cases : (tree : Tree) (id : ℕ) (slot : Option Listing) (change : Listing → Listing) → slice_get tree id ≡ Some slot → slice_set tree id (option_map change slot) ≡ put_at tree id change slot
+put_cases : (tree : Tree) (id : ℕ) (slot : Option Listing) (change : Listing → Listing) → slice_get tree id ≡ Some slot → slice_set tree id (option_map change slot) ≡ with_change_at tree id change slot
 put_cases tree id None change h = put_back tree id None h
 put_cases tree id (Some directory) change h = refl
 
 -- a slot in which the directory, where there is one, was changed
-pub put_slot : (tree : Tree) (id : ℕ) (slot : Option Listing) (change : Listing → Listing) → id < length tree → slot ≡ get_or tree id slot → slice_set tree id (option_map change slot) ≡ put_at tree id change (dir_at tree id)
+pub put_slot : (tree : Tree) (id : ℕ) (slot : Option Listing) (change : Listing → Listing) → id < length tree → slot ≡ get_or tree id slot → slice_set tree id (option_map change slot) ≡ with_change_at tree id change (dir_at tree id)
 put_slot tree id slot change within is =
     let here : slice_get tree id ≡ Some slot = slice_get_read tree (length tree) id slot refl within is in
-    put_cases tree id slot change here ∙ sym (ap (λ (s : Option (Option Listing)). put_at tree id change (in_slot s)) here)
+    put_cases tree id slot change here ∙ sym (ap (λ (s : Option (Option Listing)). with_change_at tree id change (in_slot s)) here)
 
-pub put_slot_to : (tree : Tree) (id : ℕ) (slot new : Option Listing) (change : Listing → Listing) → id < length tree → slot ≡ get_or tree id slot → new ≡ option_map change slot → slice_set tree id new ≡ put_at tree id change (dir_at tree id)
+pub put_slot_to : (tree : Tree) (id : ℕ) (slot new : Option Listing) (change : Listing → Listing) → id < length tree → slot ≡ get_or tree id slot → new ≡ option_map change slot → slice_set tree id new ≡ with_change_at tree id change (dir_at tree id)
 put_slot_to tree id slot new change within is changed =
     ap (λ (s : Option Listing). slice_set tree id s) changed ∙ put_slot tree id slot change within is
 
-pub put_slot_ok : (tree : Tree) (id : ℕ) (slot new : Option Listing) (change : Listing → Listing) (r : Result (Unit {0}) AllocError) → id < length tree → slot ≡ get_or tree id slot → OnOk r (new ≡ option_map change slot) → OnOk r (slice_set tree id new ≡ put_at tree id change (dir_at tree id))
+pub put_slot_ok : (tree : Tree) (id : ℕ) (slot new : Option Listing) (change : Listing → Listing) (r : Result (Unit {0}) AllocError) → id < length tree → slot ≡ get_or tree id slot → OnOk r (new ≡ option_map change slot) → OnOk r (slice_set tree id new ≡ with_change_at tree id change (dir_at tree id))
 put_slot_ok tree id slot new change (Ok done) within is changed = put_slot_to tree id slot new change within is changed
 put_slot_ok tree id slot new change (Err error) within is changed = tt
 
-pub put_slot_err : (tree : Tree) (id : ℕ) (slot new : Option Listing) (r : Result (Unit {0}) AllocError) → id < length tree → slot ≡ get_or tree id slot → OnErr r (new ≡ slot) → OnErr r (slice_set tree id new ≡ tree)
-put_slot_err tree id slot new (Ok done) within is same = tt
-put_slot_err tree id slot new (Err error) within is same =
-    ap (λ (s : Option Listing). slice_set tree id s) same ∙ put_back_read tree id slot within is
-
 -- a slot that was changed so, and one more slot
-pub grew : (tree held out : Tree) (id made : ℕ) (name : List ℕ) (node : ℕ → Node) (slot new rest last : Option Listing) → held ≡ tree → made ≡ length tree → id < length tree → slot ≡ get_or held id slot → new ≡ option_map (λ directory. with_entry directory name (node made)) slot → rest ≡ last → out ≡ slice_set held id new ++ rest ∷ [] → out ≡ entered tree id name (node (length tree)) ++ last ∷ []
+pub grew : (tree held out : Tree) (id made : ℕ) (name : List ℕ) (node : ℕ → Node) (slot new rest last : Option Listing) → held ≡ tree → made ≡ length tree → id < length tree → slot ≡ get_or held id slot → new ≡ option_map (λ directory. with_entry directory name (node made)) slot → rest ≡ last → out ≡ slice_set held id new ++ rest ∷ [] → out ≡ with_entry_at tree id name (node (length tree)) ++ last ∷ []
 grew tree held out id made name node slot new rest last same next within read changed ends is =
     let here : slot ≡ get_or tree id slot = read ∙ ap (λ (t : Tree). get_or t id slot) same in
     let changes : new ≡ option_map (λ directory. with_entry directory name (node (length tree))) slot = changed ∙ ap (λ (n : ℕ). option_map (λ directory. with_entry directory name (node n)) slot) next in

@@ -9,7 +9,7 @@ use Rattle.name_store.specs.declared.operation.Node.TheVariants.{Dir, Link, File
 use Rattle.name_store.specs.declared.operation.NameOp.{NameOp}
 use Rattle.name_store.specs.declared.operation.NameOp.TheVariants.{Look, Parent, Makedir, Addlink, Addfile, Remfile, Remdir, Move, List as ListOp}
 use Rattle.name_store.specs.declared.operation.NameAnswer.TheVariants.{Same}
-use Rattle.name_store.specs.NameTrees.{Tree, Listing, Outcome, byte_order, dir_at, dir_in, dir_of, empty_in, entry_at, filed_beside, filed_in, is_empty, is_inside, is_same_entry, linked_beside, linked_in, made_beside, made_in, mount_fault, move_fault, moved_in, moved_node, nstep, opening, over_fault, removed_dir, removed_dir_in, removed_empty, removed_file, removed_file_in, stays, unless, with_entry, with_mount}
+use Rattle.name_store.specs.NameTrees.{Tree, Listing, NamesOutcome, byte_order, dir_at, dir_in, dir_of, empty_in, entry_at, addfile_outcome_at, addfile_outcome, is_empty, is_inside, is_same_entry, addlink_outcome_at, addlink_outcome, makedir_outcome_at, makedir_outcome, mount_fault, move_fault, move_outcome, move_outcome_at, nstep, opening, over_fault, remdir_outcome_at, remdir_outcome, remdir_child_outcome, remfile_outcome_at, remfile_outcome, outcome_of, unless_refused, with_entry, with_mount}
 use Rattle.name_store.specs.Sound.{node_in, node_at, parent_of, parent_at, id_of, climb, IsSound}
 use Rattle.name_store.proofs.Entries.{entered_here, entered_other, entered_sorted, same_name, apart_names}
 use Rattle.name_store.proofs.Changes.{Apart}
@@ -88,31 +88,31 @@ pub opening_sound : (mounts : List (List ℕ × ℕ)) → IsSound (opening mount
 opening_sound mounts = only_sound (fold with_mount (empty_in 0) mounts) (mounted_all (empty_in 0) mounts mounted_none)
 
 -- each operation
-abbrev Stays : Outcome → Type 0
+abbrev Stays : NamesOutcome → Type 0
 Stays outcome = IsSound outcome.tree
 
 module _ (tree : Tree) (sound : IsSound tree) where
-  made_at : (id : ℕ) (name : List ℕ) (directory : Listing) (node : Option Node) → dir_at tree id ≡ Some directory → entry_at directory name ≡ node → Stays (made_beside tree id name node)
+  made_at : (id : ℕ) (name : List ℕ) (directory : Listing) (node : Option Node) → dir_at tree id ≡ Some directory → entry_at directory name ≡ node → Stays (makedir_outcome_at tree id name node)
   made_at id name directory (Some node) there h = sound
   made_at id name directory None there h = grown_sound tree id name directory sound there h
 
-  made : (id : ℕ) (name : List ℕ) (directory : Option Listing) → dir_at tree id ≡ directory → Stays (made_in tree id name directory)
+  made : (id : ℕ) (name : List ℕ) (directory : Option Listing) → dir_at tree id ≡ directory → Stays (makedir_outcome tree id name directory)
   made id name None there = sound
   made id name (Some directory) there = made_at id name directory (entry_at directory name) there refl
 
-  linked_at : (id : ℕ) (name text : List ℕ) (directory : Listing) (node : Option Node) → dir_at tree id ≡ Some directory → entry_at directory name ≡ node → Stays (linked_beside tree id name text node)
+  linked_at : (id : ℕ) (name text : List ℕ) (directory : Listing) (node : Option Node) → dir_at tree id ≡ Some directory → entry_at directory name ≡ node → Stays (addlink_outcome_at tree id name text node)
   linked_at id name text directory (Some node) there h = sound
   linked_at id name text directory None there h = linked_sound tree id name directory sound there h text
 
-  links : (id : ℕ) (name text : List ℕ) (directory : Option Listing) → dir_at tree id ≡ directory → Stays (linked_in tree id name text directory)
+  links : (id : ℕ) (name text : List ℕ) (directory : Option Listing) → dir_at tree id ≡ directory → Stays (addlink_outcome tree id name text directory)
   links id name text None there = sound
   links id name text (Some directory) there = linked_at id name text directory (entry_at directory name) there refl
 
-  filed_at : (id : ℕ) (name : List ℕ) (file : ℕ) (directory : Listing) (node : Option Node) → dir_at tree id ≡ Some directory → entry_at directory name ≡ node → Stays (filed_beside tree id name file node)
+  filed_at : (id : ℕ) (name : List ℕ) (file : ℕ) (directory : Listing) (node : Option Node) → dir_at tree id ≡ Some directory → entry_at directory name ≡ node → Stays (addfile_outcome_at tree id name file node)
   filed_at id name file directory (Some node) there h = sound
   filed_at id name file directory None there h = filed_sound tree id name directory sound there h file
 
-  files : (id : ℕ) (name : List ℕ) (file : ℕ) (directory : Option Listing) → dir_at tree id ≡ directory → Stays (filed_in tree id name file directory)
+  files : (id : ℕ) (name : List ℕ) (file : ℕ) (directory : Option Listing) → dir_at tree id ≡ directory → Stays (addfile_outcome tree id name file directory)
   files id name file None there = sound
   files id name file (Some directory) there = filed_at id name file directory (entry_at directory name) there refl
 
@@ -120,7 +120,7 @@ module _ (tree : Tree) (sound : IsSound tree) where
   stood : (id : ℕ) (name : List ℕ) (directory : Listing) (node : Node) → dir_at tree id ≡ Some directory → entry_at directory name ≡ Some node → node_at tree id name ≡ Some node
   stood id name directory node there h = ap (λ (d : Option Listing). node_in d name) there ∙ h
 
-  unfiled_at : (id : ℕ) (name : List ℕ) (slash : Bool) (directory : Listing) (node : Option Node) → dir_at tree id ≡ Some directory → entry_at directory name ≡ node → Stays (removed_file tree id name slash node)
+  unfiled_at : (id : ℕ) (name : List ℕ) (slash : Bool) (directory : Listing) (node : Option Node) → dir_at tree id ≡ Some directory → entry_at directory name ≡ node → Stays (remfile_outcome_at tree id name slash node)
   unfiled_at id name slash directory None there h = sound
   unfiled_at id name slash directory (Some (Dir child)) there h = sound
   unfiled_at id name slash directory (Some (Mount backend)) there h = sound
@@ -129,30 +129,30 @@ module _ (tree : Tree) (sound : IsSound tree) where
   unfiled_at id name false directory (Some (File file)) there h = unlinked_sound tree id name (File file) sound (stood id name directory (File file) there h) refl
   unfiled_at id name false directory (Some (Link link text)) there h = unlinked_sound tree id name (Link link text) sound (stood id name directory (Link link text) there h) refl
 
-  unfiled : (id : ℕ) (name : List ℕ) (slash : Bool) (directory : Option Listing) → dir_at tree id ≡ directory → Stays (removed_file_in tree id name slash directory)
+  unfiled : (id : ℕ) (name : List ℕ) (slash : Bool) (directory : Option Listing) → dir_at tree id ≡ directory → Stays (remfile_outcome tree id name slash directory)
   unfiled id name slash None there = sound
   unfiled id name slash (Some directory) there = unfiled_at id name slash directory (entry_at directory name) there refl
 
-  emptied : (id : ℕ) (name : List ℕ) (child : ℕ) (empty : Bool) → node_at tree id name ≡ Some (Dir child) → is_empty (dir_at tree child) ≡ empty → Stays (removed_empty tree id name child empty)
+  emptied : (id : ℕ) (name : List ℕ) (child : ℕ) (empty : Bool) → node_at tree id name ≡ Some (Dir child) → is_empty (dir_at tree child) ≡ empty → Stays (remdir_child_outcome tree id name child empty)
   emptied id name child false h e = sound
   emptied id name child true h e = removed_sound tree id name child sound h e
 
-  removed_at : (id : ℕ) (name : List ℕ) (directory : Listing) (node : Option Node) → dir_at tree id ≡ Some directory → entry_at directory name ≡ node → Stays (removed_dir tree id name node)
+  removed_at : (id : ℕ) (name : List ℕ) (directory : Listing) (node : Option Node) → dir_at tree id ≡ Some directory → entry_at directory name ≡ node → Stays (remdir_outcome_at tree id name node)
   removed_at id name directory None there h = sound
   removed_at id name directory (Some (Mount backend)) there h = sound
   removed_at id name directory (Some (File file)) there h = sound
   removed_at id name directory (Some (Link link text)) there h = sound
   removed_at id name directory (Some (Dir child)) there h = emptied id name child (is_empty (dir_at tree child)) (stood id name directory (Dir child) there h) refl
 
-  removed : (id : ℕ) (name : List ℕ) (directory : Option Listing) → dir_at tree id ≡ directory → Stays (removed_dir_in tree id name directory)
+  removed : (id : ℕ) (name : List ℕ) (directory : Option Listing) → dir_at tree id ≡ directory → Stays (remdir_outcome tree id name directory)
   removed id name None there = sound
   removed id name (Some directory) there = removed_at id name directory (entry_at directory name) there refl
 
-  unless_stays : (fault : Option Errno) (outcome : Outcome) → (fault ≡ None → Stays outcome) → Stays (unless fault tree outcome)
+  unless_stays : (fault : Option Errno) (outcome : NamesOutcome) → (fault ≡ None → Stays outcome) → Stays (unless_refused fault tree outcome)
   unless_stays None outcome h = h refl
   unless_stays (Some error) outcome h = sound
 
-  same_stays : (same : Bool) (outcome : Outcome) → (same ≡ false → Stays outcome) → Stays (if same then stays tree Same else outcome)
+  same_stays : (same : Bool) (outcome : NamesOutcome) → (same ≡ false → Stays outcome) → Stays (if same then outcome_of tree Same else outcome)
   same_stays true outcome h = sound
   same_stays false outcome h = h refl
 
@@ -197,7 +197,7 @@ module _ (tree : Tree) (sound : IsSound tree) where
   apart_entries : (from : ℕ) (name : List ℕ) (to : ℕ) (other : List ℕ) → is_same_entry from name to other ≡ false → Apart from name to other
   apart_entries from name to other h e f = (let clash : true ≡ false = sym (both_same from name to other e f) ∙ h in cc)
 
-  moved_at : (from : ℕ) (name : List ℕ) (to : ℕ) (other : List ℕ) (slash : Bool) (source target : Listing) (node over : Option Node) → dir_at tree from ≡ Some source → dir_at tree to ≡ Some target → entry_at source name ≡ node → entry_at target other ≡ over → Stays (moved_node tree from name to other slash node over)
+  moved_at : (from : ℕ) (name : List ℕ) (to : ℕ) (other : List ℕ) (slash : Bool) (source target : Listing) (node over : Option Node) → dir_at tree from ≡ Some source → dir_at tree to ≡ Some target → entry_at source name ≡ node → entry_at target other ≡ over → Stays (move_outcome_at tree from name to other slash node over)
   moved_at from name to other slash source target None over here there h k = sound
   moved_at from name to other slash source target (Some node) over here there h k =
       unless_stays (move_fault tree node to slash) _ (λ may_move.
@@ -208,7 +208,7 @@ module _ (tree : Tree) (sound : IsSound tree) where
       (ap (λ (d : Option Listing). node_in d other) there ∙ k) (ap parent_of there) (apart_entries from name to other differ)
       (λ id e. not_inside node to slash id may_move e) (λ id e. replaced_empty node over id may_replace e)))))
 
-  moves : (from : ℕ) (name : List ℕ) (to : ℕ) (other : List ℕ) (slash : Bool) (source target : Option Listing) → dir_at tree from ≡ source → dir_at tree to ≡ target → Stays (moved_in tree from name to other slash source target)
+  moves : (from : ℕ) (name : List ℕ) (to : ℕ) (other : List ℕ) (slash : Bool) (source target : Option Listing) → dir_at tree from ≡ source → dir_at tree to ≡ target → Stays (move_outcome tree from name to other slash source target)
   moves from name to other slash None target here there = sound
   moves from name to other slash (Some source) None here there = sound
   moves from name to other slash (Some source) (Some target) here there =

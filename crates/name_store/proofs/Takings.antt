@@ -3,7 +3,7 @@ use Rattle.std.proofs.Common.{◌≡◌, ℕ, ◌==◌, true, false, inl, inr, L
 use Rattle.std.proofs.lemmas.Bool.Decides.{nat_tests}
 use Rattle.name_store.specs.declared.operation.Node.{Node}
 use Rattle.name_store.specs.declared.operation.Node.TheVariants.{Dir}
-use Rattle.name_store.specs.NameTrees.{Tree, Listing, dir_at, dir_of, freed, is_empty, unlinked}
+use Rattle.name_store.specs.NameTrees.{Tree, Listing, dir_at, dir_of, without_directory, is_empty, without_entry_at}
 use Rattle.name_store.specs.Sound.{node_in, node_at, parent_of, IsSound}
 use Rattle.name_store.proofs.Entries.{Entries, at}
 use Rattle.name_store.proofs.Changes.{Ordered, same_id, same_place, freed_at, freed_others, freed_size, unlinked_at, unlinked_apart, unlinked_parents, unlinked_size}
@@ -26,7 +26,7 @@ pub empty_nodes : (tree : Tree) (id : ℕ) → is_empty (dir_at tree id) ≡ tru
 empty_nodes tree id h name = empty_in_all (dir_at tree id) name h
 
 -- a directory in which nothing stands is freed with nothing lost
-pub freed_nodes : (tree : Tree) (id : Option ℕ) (first : ℕ) (other : List ℕ) → (id ≡ Some first → node_at tree first other ≡ None) → node_at (freed tree id) first other ≡ node_at tree first other
+pub freed_nodes : (tree : Tree) (id : Option ℕ) (first : ℕ) (other : List ℕ) → (id ≡ Some first → node_at tree first other ≡ None) → node_at (without_directory tree id) first other ≡ node_at tree first other
 freed_nodes tree None first other h = refl
 freed_nodes tree (Some id) first other h =
     elim (same_id first id) [
@@ -37,18 +37,18 @@ freed_nodes tree (Some id) first other h =
     ]
 
 -- where nothing stands, nothing stands after something was taken out
-pub unlinked_none : (tree : Tree) (id : ℕ) (name : List ℕ) (first : ℕ) (other : List ℕ) → Ordered tree id → node_at tree first other ≡ None → node_at (unlinked tree id name) first other ≡ None
+pub unlinked_none : (tree : Tree) (id : ℕ) (name : List ℕ) (first : ℕ) (other : List ℕ) → Ordered tree id → node_at tree first other ≡ None → node_at (without_entry_at tree id name) first other ≡ None
 unlinked_none tree id name first other sorted h =
     elim (same_place id name first other) [
       | inl e ↦
-          ap (λ (i : ℕ). node_at (unlinked tree id name) i other) e.0
-          ∙ ap (λ (n : List ℕ). node_at (unlinked tree id name) id n) e.1
+          ap (λ (i : ℕ). node_at (without_entry_at tree id name) i other) e.0
+          ∙ ap (λ (n : List ℕ). node_at (without_entry_at tree id name) id n) e.1
           ∙ unlinked_at tree id name sorted
       | inr a ↦ unlinked_apart tree id name first other a ∙ h
     ]
 
-pub unlinked_sound : (tree : Tree) (id : ℕ) (name : List ℕ) (node : Node) → IsSound tree → node_at tree id name ≡ Some node → dir_of node ≡ None → IsSound (unlinked tree id name)
-unlinked_sound tree id name node sound stood no_dir = takes tree (unlinked tree id name) id name node sound (record {
+pub unlinked_sound : (tree : Tree) (id : ℕ) (name : List ℕ) (node : Node) → IsSound tree → node_at tree id name ≡ Some node → dir_of node ≡ None → IsSound (without_entry_at tree id name)
+unlinked_sound tree id name node sound stood no_dir = takes tree (without_entry_at tree id name) id name node sound (record {
   stood = stood;
   gone = unlinked_at tree id name (sound.names id);
   apart = λ first other a. unlinked_apart tree id name first other a;
@@ -61,10 +61,10 @@ unlinked_sound tree id name node sound stood no_dir = takes tree (unlinked tree 
 
 module _ (tree : Tree) (id : ℕ) (name : List ℕ) (child : ℕ) (sound : IsSound tree) (stood : node_at tree id name ≡ Some (Dir child)) (empty : is_empty (dir_at tree child) ≡ true) where
   abbrev left : Tree
-  left = unlinked tree id name
+  left = without_entry_at tree id name
 
   abbrev new : Tree
-  new = freed left (Some child)
+  new = without_directory left (Some child)
 
   -- nothing stands in the directory that is freed
   nothing : (first : ℕ) (other : List ℕ) → Some child ≡ Some first → node_at left first other ≡ None

@@ -30,9 +30,6 @@ id_given tree sound place name (Link link text) id h e =
 id_given tree sound place name (File file) id h e = cc
 id_given tree sound place name (Mount backend) id h e = cc
 
-past_parent : (tree : Tree) (id : ℕ) → length tree ≤ id → parent_at tree id ≡ None
-past_parent tree id h = ap parent_of (past tree id h)
-
 pub none_some : {X : Type 0} (o : Option X) (x : X) → o ≡ None → o ≡ Some x → ⊥
 none_some o x e f = cc
 

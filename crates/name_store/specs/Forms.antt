@@ -1,5 +1,6 @@
 -- The forms of answer that each operation has.
 use Rattle.std.specs.Prelude.{◌≡◌, ◌≤◌, ◌∷◌, length}
+use Rattle.wf_core.specs.Limits.{list_max}
 use Rattle.wf_core.specs.declared.errno.Errno.{Errno}
 use Rattle.wf_core.specs.declared.errno.Errno.TheVariants.{Enoent, Eexist, Enotdir, Eisdir, Enotempty, Einval, Ebusy}
 use Rattle.name_store.specs.declared.operation.Node.{Node}
@@ -8,7 +9,6 @@ use Rattle.name_store.specs.declared.operation.NameOp.{NameOp}
 use Rattle.name_store.specs.declared.operation.NameOp.TheVariants.{Look, Parent, Makedir, Addlink, Addfile, Remfile, Remdir, Move, List as ListOp}
 use Rattle.name_store.specs.declared.operation.NameAnswer.{NameAnswer}
 use Rattle.name_store.specs.declared.operation.NameAnswer.TheVariants.{Gone, Absent, Found, Made, Taken, Done, RemovedFile, RemovedLink, Same, Over, Moved, Names, Fault}
-use Rattle.name_store.specs.NameTrees.{names_max}
 
 -- the errors that an operation answers
 abbrev pub RemfileFault : Errno → Type 0
@@ -57,7 +57,7 @@ IsForm (Move from name to other slash) Same = Unit {0}
 IsForm (Move from name to other slash) (Over file) = Unit {0}
 IsForm (Move from name to other slash) Moved = Unit {0}
 IsForm (Move from name to other slash) (Fault error) = MoveFault error
-IsForm (ListOp id start) (Names names) = length names ≤ names_max
+IsForm (ListOp id start) (Names names) = length names ≤ list_max
 IsForm op answer = ⊥
 
 -- the operations that take no memory but for the text of their answer

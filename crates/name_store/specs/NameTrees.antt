@@ -8,6 +8,7 @@ use Rattle.std.specs.Ordering.{nat_cmp}
 use Rattle.std.specs.Cmp.Lexicographic.{pointwise, slice_cmp}
 use Rattle.std.specs.Map.{keys_of, lookup, remove_entry}
 use Rattle.std.specs.BTreeMap.{insert_entry, is_at}
+use Rattle.wf_core.specs.Limits.{list_max}
 use Rattle.wf_core.specs.declared.errno.Errno.{Errno}
 use Rattle.wf_core.specs.declared.errno.Errno.TheVariants.{Enoent, Eexist, Enotdir, Eisdir, Enotempty, Einval, Ebusy}
 use Rattle.name_store.specs.declared.operation.Node.{Node}
@@ -58,44 +59,45 @@ without_entry directory name = record { parent = directory.parent; entries = rem
 abbrev pub with_parent : Listing → ℕ → Listing
 with_parent directory parent = record { parent = parent; entries = directory.entries }
 
--- the tree before the first operation: the root alone, in which each backend is mounted under its name
+-- a directory with a mount of a backend under a name
 abbrev pub with_mount : Listing → List ℕ × ℕ → Listing
 with_mount root (name, backend) = with_entry root name (Mount backend)
 
+-- the tree before the first operation: the root alone, in which each backend is mounted under its name
 abbrev pub opening : List (List ℕ × ℕ) → Tree
 opening mounts = Some (fold with_mount (empty_in 0) mounts) ∷ []
 
 -- The changes of a tree. Each changes one directory, and nothing where that is not there.
 
-abbrev pub put_at : Tree → ℕ → (Listing → Listing) → Option Listing → Tree
-put_at tree id change None = tree
-put_at tree id change (Some directory) = slice_set tree id (Some (change directory))
+abbrev pub with_change_at : Tree → ℕ → (Listing → Listing) → Option Listing → Tree
+with_change_at tree id change None = tree
+with_change_at tree id change (Some directory) = slice_set tree id (Some (change directory))
 
 -- directory `id` has that entry
-abbrev pub entered : Tree → ℕ → List ℕ → Node → Tree
-entered tree id name node = put_at tree id (λ directory. with_entry directory name node) (dir_at tree id)
+abbrev pub with_entry_at : Tree → ℕ → List ℕ → Node → Tree
+with_entry_at tree id name node = with_change_at tree id (λ directory. with_entry directory name node) (dir_at tree id)
 
 -- directory `id` has no entry of that name
-abbrev pub unlinked : Tree → ℕ → List ℕ → Tree
-unlinked tree id name = put_at tree id (λ directory. without_entry directory name) (dir_at tree id)
+abbrev pub without_entry_at : Tree → ℕ → List ℕ → Tree
+without_entry_at tree id name = with_change_at tree id (λ directory. without_entry directory name) (dir_at tree id)
 
--- directory `id`, where there is one to settle, has that parent
-abbrev pub settled : Tree → Option ℕ → ℕ → Tree
-settled tree None parent = tree
-settled tree (Some id) parent = put_at tree id (λ directory. with_parent directory parent) (dir_at tree id)
+-- directory `id`, where one is given, has that parent
+abbrev pub with_parent_at : Tree → Option ℕ → ℕ → Tree
+with_parent_at tree None parent = tree
+with_parent_at tree (Some id) parent = with_change_at tree id (λ directory. with_parent directory parent) (dir_at tree id)
 
--- `id`, where there is one to free, has no directory
-abbrev pub freed : Tree → Option ℕ → Tree
-freed tree None = tree
-freed tree (Some id) = slice_set tree id None
+-- `id`, where one is given, has no directory
+abbrev pub without_directory : Tree → Option ℕ → Tree
+without_directory tree None = tree
+without_directory tree (Some id) = slice_set tree id None
 
 -- directory `id` has a new directory under that name
-abbrev pub grown : Tree → ℕ → List ℕ → Tree
-grown tree id name = entered tree id name (Dir (length tree)) ++ Some (empty_in id) ∷ []
+abbrev pub with_new_directory : Tree → ℕ → List ℕ → Tree
+with_new_directory tree id name = with_entry_at tree id name (Dir (length tree)) ++ Some (empty_in id) ∷ []
 
 -- directory `id` has a new link under that name
-abbrev pub linked : Tree → ℕ → List ℕ → List ℕ → Tree
-linked tree id name text = entered tree id name (Link (length tree) text) ++ None ∷ []
+abbrev pub with_new_link : Tree → ℕ → List ℕ → List ℕ → Tree
+with_new_link tree id name text = with_entry_at tree id name (Link (length tree) text) ++ None ∷ []
 
 -- the directory that a node is
 abbrev pub dir_of : Node → Option ℕ
@@ -110,76 +112,73 @@ dir_in (Some node) = dir_of node
 
 -- the entry `name` of directory `from`, which is that node, moved to `to` under the name `other`, in the place
 -- of `over`. A moved directory has `to` above it, and a directory that is replaced is no more.
-abbrev pub moved : Tree → ℕ → List ℕ → ℕ → List ℕ → Node → Option Node → Tree
-moved tree from name to other node over =
-    freed (settled (unlinked (entered tree to other node) from name) (dir_of node) to) (dir_in over)
+abbrev pub after_move : Tree → ℕ → List ℕ → ℕ → List ℕ → Node → Option Node → Tree
+after_move tree from name to other node over =
+    without_directory (with_parent_at (without_entry_at (with_entry_at tree to other node) from name) (dir_of node) to) (dir_in over)
 
 -- What an operation answers, and the tree that it leaves.
 
-pub record Outcome : Type 0 where
+pub record NamesOutcome : Type 0 where
   pub tree : Tree
   pub answer : NameAnswer
 
-abbrev pub stays : Tree → NameAnswer → Outcome
-stays tree answer = record { tree = tree; answer = answer }
-
-abbrev pub leaves : Tree → NameAnswer → Outcome
-leaves tree answer = record { tree = tree; answer = answer }
+abbrev pub outcome_of : Tree → NameAnswer → NamesOutcome
+outcome_of tree answer = record { tree = tree; answer = answer }
 
 -- `look`
-abbrev pub found : Option Node → NameAnswer
-found None = Absent
-found (Some node) = Found node
+abbrev pub look_answer_at : Option Node → NameAnswer
+look_answer_at None = Absent
+look_answer_at (Some node) = Found node
 
-abbrev pub looked_up : Option Listing → List ℕ → NameAnswer
-looked_up None name = Gone
-looked_up (Some directory) name = found (entry_at directory name)
+abbrev pub look_answer : Option Listing → List ℕ → NameAnswer
+look_answer None name = Gone
+look_answer (Some directory) name = look_answer_at (entry_at directory name)
 
 -- `parent`
-abbrev pub parent_in : Option Listing → NameAnswer
-parent_in None = Gone
-parent_in (Some directory) = Found (Dir directory.parent)
+abbrev pub parent_answer : Option Listing → NameAnswer
+parent_answer None = Gone
+parent_answer (Some directory) = Found (Dir directory.parent)
 
 -- `makedir`: EEXIST where the name is there
-abbrev pub made_beside : Tree → ℕ → List ℕ → Option Node → Outcome
-made_beside tree id name (Some node) = stays tree (Fault Eexist)
-made_beside tree id name None = leaves (grown tree id name) (Made (length tree))
+abbrev pub makedir_outcome_at : Tree → ℕ → List ℕ → Option Node → NamesOutcome
+makedir_outcome_at tree id name (Some node) = outcome_of tree (Fault Eexist)
+makedir_outcome_at tree id name None = outcome_of (with_new_directory tree id name) (Made (length tree))
 
-abbrev pub made_in : Tree → ℕ → List ℕ → Option Listing → Outcome
-made_in tree id name None = stays tree Gone
-made_in tree id name (Some directory) = made_beside tree id name (entry_at directory name)
+abbrev pub makedir_outcome : Tree → ℕ → List ℕ → Option Listing → NamesOutcome
+makedir_outcome tree id name None = outcome_of tree Gone
+makedir_outcome tree id name (Some directory) = makedir_outcome_at tree id name (entry_at directory name)
 
 -- `addlink`: EEXIST where the name is there
-abbrev pub linked_beside : Tree → ℕ → List ℕ → List ℕ → Option Node → Outcome
-linked_beside tree id name text (Some node) = stays tree (Fault Eexist)
-linked_beside tree id name text None = leaves (linked tree id name text) (Made (length tree))
+abbrev pub addlink_outcome_at : Tree → ℕ → List ℕ → List ℕ → Option Node → NamesOutcome
+addlink_outcome_at tree id name text (Some node) = outcome_of tree (Fault Eexist)
+addlink_outcome_at tree id name text None = outcome_of (with_new_link tree id name text) (Made (length tree))
 
-abbrev pub linked_in : Tree → ℕ → List ℕ → List ℕ → Option Listing → Outcome
-linked_in tree id name text None = stays tree Gone
-linked_in tree id name text (Some directory) = linked_beside tree id name text (entry_at directory name)
+abbrev pub addlink_outcome : Tree → ℕ → List ℕ → List ℕ → Option Listing → NamesOutcome
+addlink_outcome tree id name text None = outcome_of tree Gone
+addlink_outcome tree id name text (Some directory) = addlink_outcome_at tree id name text (entry_at directory name)
 
 -- `addfile`: what is there where the name is taken
-abbrev pub filed_beside : Tree → ℕ → List ℕ → ℕ → Option Node → Outcome
-filed_beside tree id name file (Some node) = stays tree (Taken node)
-filed_beside tree id name file None = leaves (entered tree id name (File file)) Done
+abbrev pub addfile_outcome_at : Tree → ℕ → List ℕ → ℕ → Option Node → NamesOutcome
+addfile_outcome_at tree id name file (Some node) = outcome_of tree (Taken node)
+addfile_outcome_at tree id name file None = outcome_of (with_entry_at tree id name (File file)) Done
 
-abbrev pub filed_in : Tree → ℕ → List ℕ → ℕ → Option Listing → Outcome
-filed_in tree id name file None = stays tree Gone
-filed_in tree id name file (Some directory) = filed_beside tree id name file (entry_at directory name)
+abbrev pub addfile_outcome : Tree → ℕ → List ℕ → ℕ → Option Listing → NamesOutcome
+addfile_outcome tree id name file None = outcome_of tree Gone
+addfile_outcome tree id name file (Some directory) = addfile_outcome_at tree id name file (entry_at directory name)
 
 -- `remfile`: ENOENT, EISDIR for a directory or a mount, ENOTDIR where a slash follows the name
-abbrev pub removed_file : Tree → ℕ → List ℕ → Bool → Option Node → Outcome
-removed_file tree id name slash None = stays tree (Fault Enoent)
-removed_file tree id name slash (Some (Dir child)) = stays tree (Fault Eisdir)
-removed_file tree id name slash (Some (Mount backend)) = stays tree (Fault Eisdir)
-removed_file tree id name true (Some (File file)) = stays tree (Fault Enotdir)
-removed_file tree id name true (Some (Link link text)) = stays tree (Fault Enotdir)
-removed_file tree id name false (Some (File file)) = leaves (unlinked tree id name) (RemovedFile file)
-removed_file tree id name false (Some (Link link text)) = leaves (unlinked tree id name) RemovedLink
+abbrev pub remfile_outcome_at : Tree → ℕ → List ℕ → Bool → Option Node → NamesOutcome
+remfile_outcome_at tree id name slash None = outcome_of tree (Fault Enoent)
+remfile_outcome_at tree id name slash (Some (Dir child)) = outcome_of tree (Fault Eisdir)
+remfile_outcome_at tree id name slash (Some (Mount backend)) = outcome_of tree (Fault Eisdir)
+remfile_outcome_at tree id name true (Some (File file)) = outcome_of tree (Fault Enotdir)
+remfile_outcome_at tree id name true (Some (Link link text)) = outcome_of tree (Fault Enotdir)
+remfile_outcome_at tree id name false (Some (File file)) = outcome_of (without_entry_at tree id name) (RemovedFile file)
+remfile_outcome_at tree id name false (Some (Link link text)) = outcome_of (without_entry_at tree id name) RemovedLink
 
-abbrev pub removed_file_in : Tree → ℕ → List ℕ → Bool → Option Listing → Outcome
-removed_file_in tree id name slash None = stays tree Gone
-removed_file_in tree id name slash (Some directory) = removed_file tree id name slash (entry_at directory name)
+abbrev pub remfile_outcome : Tree → ℕ → List ℕ → Bool → Option Listing → NamesOutcome
+remfile_outcome tree id name slash None = outcome_of tree Gone
+remfile_outcome tree id name slash (Some directory) = remfile_outcome_at tree id name slash (entry_at directory name)
 
 -- there is no entry in a directory, or there is no directory
 abbrev pub is_empty : Option Listing → Bool
@@ -187,20 +186,20 @@ is_empty None = true
 is_empty (Some directory) = length directory.entries == 0
 
 -- `remdir`: ENOENT, EBUSY for a mount, ENOTDIR for a file or a link, ENOTEMPTY
-abbrev pub removed_empty : Tree → ℕ → List ℕ → ℕ → Bool → Outcome
-removed_empty tree id name child false = stays tree (Fault Enotempty)
-removed_empty tree id name child true = leaves (freed (unlinked tree id name) (Some child)) Done
+abbrev pub remdir_child_outcome : Tree → ℕ → List ℕ → ℕ → Bool → NamesOutcome
+remdir_child_outcome tree id name child false = outcome_of tree (Fault Enotempty)
+remdir_child_outcome tree id name child true = outcome_of (without_directory (without_entry_at tree id name) (Some child)) Done
 
-abbrev pub removed_dir : Tree → ℕ → List ℕ → Option Node → Outcome
-removed_dir tree id name None = stays tree (Fault Enoent)
-removed_dir tree id name (Some (Mount backend)) = stays tree (Fault Ebusy)
-removed_dir tree id name (Some (File file)) = stays tree (Fault Enotdir)
-removed_dir tree id name (Some (Link link text)) = stays tree (Fault Enotdir)
-removed_dir tree id name (Some (Dir child)) = removed_empty tree id name child (is_empty (dir_at tree child))
+abbrev pub remdir_outcome_at : Tree → ℕ → List ℕ → Option Node → NamesOutcome
+remdir_outcome_at tree id name None = outcome_of tree (Fault Enoent)
+remdir_outcome_at tree id name (Some (Mount backend)) = outcome_of tree (Fault Ebusy)
+remdir_outcome_at tree id name (Some (File file)) = outcome_of tree (Fault Enotdir)
+remdir_outcome_at tree id name (Some (Link link text)) = outcome_of tree (Fault Enotdir)
+remdir_outcome_at tree id name (Some (Dir child)) = remdir_child_outcome tree id name child (is_empty (dir_at tree child))
 
-abbrev pub removed_dir_in : Tree → ℕ → List ℕ → Option Listing → Outcome
-removed_dir_in tree id name None = stays tree Gone
-removed_dir_in tree id name (Some directory) = removed_dir tree id name (entry_at directory name)
+abbrev pub remdir_outcome : Tree → ℕ → List ℕ → Option Listing → NamesOutcome
+remdir_outcome tree id name None = outcome_of tree Gone
+remdir_outcome tree id name (Some directory) = remdir_outcome_at tree id name (entry_at directory name)
 
 -- `move`
 
@@ -247,46 +246,43 @@ abbrev pub is_same_entry : ℕ → List ℕ → ℕ → List ℕ → Bool
 is_same_entry from name to other = from == to && pointwise nat_eq name other
 
 -- the first refusal, or else the outcome
-abbrev pub unless : Option Errno → Tree → Outcome → Outcome
-unless (Some error) tree outcome = stays tree (Fault error)
-unless None tree outcome = outcome
+abbrev pub unless_refused : Option Errno → Tree → NamesOutcome → NamesOutcome
+unless_refused (Some error) tree outcome = outcome_of tree (Fault error)
+unless_refused None tree outcome = outcome
 
-abbrev pub moved_over : Tree → ℕ → List ℕ → ℕ → List ℕ → Node → Option Node → Outcome
-moved_over tree from name to other node over =
-    if is_same_entry from name to other then stays tree Same
-    else unless (over_fault tree node over) tree (leaves (moved tree from name to other node over) (move_answer over))
+abbrev pub move_outcome_over : Tree → ℕ → List ℕ → ℕ → List ℕ → Node → Option Node → NamesOutcome
+move_outcome_over tree from name to other node over =
+    if is_same_entry from name to other then outcome_of tree Same
+    else unless_refused (over_fault tree node over) tree (outcome_of (after_move tree from name to other node over) (move_answer over))
 
-abbrev pub moved_node : Tree → ℕ → List ℕ → ℕ → List ℕ → Bool → Option Node → Option Node → Outcome
-moved_node tree from name to other slash None over = stays tree (Fault Enoent)
-moved_node tree from name to other slash (Some node) over =
-    unless (move_fault tree node to slash) tree
-    (unless (mount_fault over) tree
-    (moved_over tree from name to other node over))
+abbrev pub move_outcome_at : Tree → ℕ → List ℕ → ℕ → List ℕ → Bool → Option Node → Option Node → NamesOutcome
+move_outcome_at tree from name to other slash None over = outcome_of tree (Fault Enoent)
+move_outcome_at tree from name to other slash (Some node) over =
+    unless_refused (move_fault tree node to slash) tree
+    (unless_refused (mount_fault over) tree
+    (move_outcome_over tree from name to other node over))
 
-abbrev pub moved_in : Tree → ℕ → List ℕ → ℕ → List ℕ → Bool → Option Listing → Option Listing → Outcome
-moved_in tree from name to other slash None target = stays tree Gone
-moved_in tree from name to other slash (Some source) None = stays tree Gone
-moved_in tree from name to other slash (Some source) (Some target) = moved_node tree from name to other slash (entry_at source name) (entry_at target other)
+abbrev pub move_outcome : Tree → ℕ → List ℕ → ℕ → List ℕ → Bool → Option Listing → Option Listing → NamesOutcome
+move_outcome tree from name to other slash None target = outcome_of tree Gone
+move_outcome tree from name to other slash (Some source) None = outcome_of tree Gone
+move_outcome tree from name to other slash (Some source) (Some target) = move_outcome_at tree from name to other slash (entry_at source name) (entry_at target other)
 
--- `list`: at most 32 names from a position on, mounts among them
-abbrev pub names_max : ℕ
-names_max = 32
-
+-- `list`: the names from a position on, as many as one list has, mounts among them
 abbrev pub names_from : Listing → ℕ → List (List ℕ)
-names_from directory start = take names_max (drop start (keys_of directory.entries))
+names_from directory start = take list_max (drop start (keys_of directory.entries))
 
-abbrev pub listed : Option Listing → ℕ → NameAnswer
-listed None start = Gone
-listed (Some directory) start = Names (names_from directory start)
+abbrev pub list_answer : Option Listing → ℕ → NameAnswer
+list_answer None start = Gone
+list_answer (Some directory) start = Names (names_from directory start)
 
 -- each operation on a tree
-abbrev pub nstep : Tree → NameOp → Outcome
-nstep tree (Look id name) = stays tree (looked_up (dir_at tree id) name)
-nstep tree (Parent id) = stays tree (parent_in (dir_at tree id))
-nstep tree (Makedir id name) = made_in tree id name (dir_at tree id)
-nstep tree (Addlink id name text) = linked_in tree id name text (dir_at tree id)
-nstep tree (Addfile id name file) = filed_in tree id name file (dir_at tree id)
-nstep tree (Remfile id name slash) = removed_file_in tree id name slash (dir_at tree id)
-nstep tree (Remdir id name) = removed_dir_in tree id name (dir_at tree id)
-nstep tree (Move from name to other slash) = moved_in tree from name to other slash (dir_at tree from) (dir_at tree to)
-nstep tree (ListOp id start) = stays tree (listed (dir_at tree id) start)
+abbrev pub nstep : Tree → NameOp → NamesOutcome
+nstep tree (Look id name) = outcome_of tree (look_answer (dir_at tree id) name)
+nstep tree (Parent id) = outcome_of tree (parent_answer (dir_at tree id))
+nstep tree (Makedir id name) = makedir_outcome tree id name (dir_at tree id)
+nstep tree (Addlink id name text) = addlink_outcome tree id name text (dir_at tree id)
+nstep tree (Addfile id name file) = addfile_outcome tree id name file (dir_at tree id)
+nstep tree (Remfile id name slash) = remfile_outcome tree id name slash (dir_at tree id)
+nstep tree (Remdir id name) = remdir_outcome tree id name (dir_at tree id)
+nstep tree (Move from name to other slash) = move_outcome tree from name to other slash (dir_at tree from) (dir_at tree to)
+nstep tree (ListOp id start) = outcome_of tree (list_answer (dir_at tree id) start)

@@ -1,5 +1,5 @@
 ghost use Rattle.std.specs.Prelude.{◌≡◌, ◌<◌, ℕ, ◌∷◌, [], length, None, IsSome, IfOk, OnOk, OnErr, option_copied, option_map};
-ghost use Rattle.name_store.specs.NameTrees.{Tree, dir_at, entered, freed, grown, is_empty, is_inside, linked, opening, settled, unlinked, up, with_entry};
+ghost use Rattle.name_store.specs.NameTrees.{Tree, dir_at, with_entry_at, without_directory, with_new_directory, is_empty, is_inside, with_new_link, opening, with_parent_at, without_entry_at, up, with_entry};
 
 use crate::directory::Directory;
 use crate::operation::Node;
@@ -91,7 +91,7 @@ impl Directories {
 
     /// Enters a node in a directory under that name, in the place of what is there.
     pub(crate) fn enter(&mut self, id: u64, name: Name, node: Node) -> Result<(), AllocError>
-        ensures ok { OnOk result (self.new ≡ entered self.old id name node) }
+        ensures ok { OnOk result (self.new ≡ with_entry_at self.old id name node) }
         ensures err { OnErr result (self.new ≡ self.old) }
     {
         let index = id as usize;
@@ -103,7 +103,7 @@ impl Directories {
 
     /// Takes an entry out of a directory.
     pub(crate) fn unlink(&mut self, id: u64, name: &Name)
-        ensures { self.new ≡ unlinked self.old id name.now }
+        ensures { self.new ≡ without_entry_at self.old id name.now }
     {
         let index = id as usize;
         if index >= self.slots.len() {
@@ -117,8 +117,8 @@ impl Directories {
     }
 
     /// Gives a directory, where there is one, its new parent.
-    pub(crate) fn settle(&mut self, child: Option<u64>, parent: u64)
-        ensures { self.new ≡ settled self.old child parent }
+    pub(crate) fn set_parent(&mut self, child: Option<u64>, parent: u64)
+        ensures { self.new ≡ with_parent_at self.old child parent }
     {
         let Some(id) = child else {
             return;
@@ -131,12 +131,12 @@ impl Directories {
         let Some(directory) = slot else {
             return;
         };
-        directory.settle(parent);
+        directory.set_parent(parent);
     }
 
     /// Ends a directory, where there is one. Its id is not used again.
     pub(crate) fn free(&mut self, child: Option<u64>)
-        ensures { self.new ≡ freed self.old child }
+        ensures { self.new ≡ without_directory self.old child }
     {
         let Some(id) = child else {
             return;
@@ -152,7 +152,7 @@ impl Directories {
     pub(crate) fn grow(&mut self, id: u64, name: Name) -> Result<u64, AllocError>
         requires { id < length self.old }
         ensures made { IfOk result (λ made. made ≡ length self.old) }
-        ensures ok { OnOk result (self.new ≡ grown self.old id name) }
+        ensures ok { OnOk result (self.new ≡ with_new_directory self.old id name) }
         ensures err { OnErr result (self.new ≡ self.old) }
     {
         let made = self.slots.len() as u64;
@@ -167,7 +167,7 @@ impl Directories {
     pub(crate) fn link(&mut self, id: u64, name: Name, text: PathText) -> Result<u64, AllocError>
         requires { id < length self.old }
         ensures made { IfOk result (λ made. made ≡ length self.old) }
-        ensures ok { OnOk result (self.new ≡ linked self.old id name text) }
+        ensures ok { OnOk result (self.new ≡ with_new_link self.old id name text) }
         ensures err { OnErr result (self.new ≡ self.old) }
     {
         let made = self.slots.len() as u64;
@@ -180,7 +180,8 @@ impl Directories {
 
 /// Enters a node in the directory of a slot, where there is one.
 fn enter_slot(slot: &mut Option<Directory>, name: Name, node: Node) -> Result<(), AllocError>
-    ensures ok { OnOk result (slot.new ≡ option_map (λ directory. with_entry directory name node) slot.old) }
+    ensures ok { OnOk result
+        (slot.new ≡ option_map (λ directory. with_entry directory name node) slot.old) }
     ensures err { OnErr result (slot.new ≡ slot.old) }
 {
     match slot {

@@ -6,10 +6,7 @@ use crate::operation::Node;
 use std::alloc::{AllocError, Global};
 use std::collections::{BTreeMap, btree_map};
 use std::marker::Model;
-use wf_core::Name;
-
-/// The most names of one list.
-const NAMES_MAX: usize = 32;
+use wf_core::{LIST_MAX, Name};
 
 /// A directory, seen as its parent's id and its entries in byte order.
 #[derive(Drop)]
@@ -58,16 +55,16 @@ impl Directory {
         self.entries.is_empty()
     }
 
-    /// At most 32 names from a position on, in byte order.
+    /// At most `LIST_MAX` names from a position on, in byte order.
     pub(crate) fn names(&self, alloc: Global, start: u32) -> Result<NameList, AllocError>
         ensures ok { IfOk result (λ names. names ≡ names_from self.now start) }
-        ensures spares { names_from self.now start ≡ [] → IsOk result }
+        ensures succeeds { names_from self.now start ≡ [] → IsOk result }
     {
         if start as usize >= self.entries.len() {
             return Ok(NameList::new(alloc));
         }
         let mut names = NameList::new(alloc);
-        for name in self.entries.keys().skip(start as usize).take(NAMES_MAX) {
+        for name in self.entries.keys().skip(start as usize).take(LIST_MAX) {
             names.push(name.clone()?)?;
         }
         Ok(names)
@@ -88,7 +85,7 @@ impl Directory {
         let _ = self.entries.remove(name);
     }
 
-    pub(crate) fn settle(&mut self, parent: u64)
+    pub(crate) fn set_parent(&mut self, parent: u64)
         ensures { self.new ≡ with_parent self.old parent }
     {
         self.parent = parent;

@@ -20,6 +20,4 @@ mod name_tree;
 mod operation;
 mod removing;
 mod steps;
-#[cfg(test)]
-mod tests;
 mod tree_line;

@@ -30,7 +30,8 @@ impl Directories {
         lines: &mut Vec<TreeLine>,
     ) -> Result<(), AllocError>
         requires { depth + levels < 2 ^ 32 }
-        ensures { OnOk result (lines.new.items ≡ lines.old.items ++ lines_below levels self.now depth id) }
+        ensures { OnOk result
+            (lines.new.items ≡ lines.old.items ++ lines_below levels self.now depth id) }
     {
         if levels == 0 {
             return Ok(());
@@ -56,7 +57,8 @@ fn push_line(
     node: &Node,
     lines: &mut Vec<TreeLine>,
 ) -> Result<(), AllocError>
-    ensures { OnOk result (lines.new.items ≡ lines.old.items ++ line_of depth name.now node.now ∷ []) }
+    ensures { OnOk result
+        (lines.new.items ≡ lines.old.items ++ line_of depth name.now node.now ∷ []) }
 {
     lines.push(line_of(alloc, depth, name, node)?)?;
     Ok(())

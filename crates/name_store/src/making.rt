@@ -1,5 +1,5 @@
 ghost use Rattle.std.specs.Prelude.{◌≡◌, IfOk, OnErr};
-ghost use Rattle.name_store.specs.NameTrees.{dir_at, filed_in, linked_in, made_in};
+ghost use Rattle.name_store.specs.NameTrees.{dir_at, addfile_outcome, addlink_outcome, makedir_outcome};
 
 use crate::directories::Directories;
 use crate::operation::{NameAnswer, Node};
@@ -8,7 +8,9 @@ use wf_core::{Errno, Name, PathText};
 
 impl Directories {
     pub(crate) fn makedir(&mut self, id: u64, name: &Name) -> Result<NameAnswer, AllocError>
-        ensures ok { IfOk result (λ answer. made_in self.old id name.now (dir_at self.old id) ≡ record { tree = self.new; answer = answer }) }
+        ensures ok { IfOk result
+            (λ answer. makedir_outcome self.old id name.now (dir_at self.old id)
+            ≡ record { tree = self.new; answer = answer }) }
         ensures err { OnErr result (self.new ≡ self.old) }
     {
         let Some(directory) = self.get(id) else {
@@ -27,7 +29,9 @@ impl Directories {
         name: &Name,
         text: &PathText,
     ) -> Result<NameAnswer, AllocError>
-        ensures ok { IfOk result (λ answer. linked_in self.old id name.now text.now (dir_at self.old id) ≡ record { tree = self.new; answer = answer }) }
+        ensures ok { IfOk result
+            (λ answer. addlink_outcome self.old id name.now text.now (dir_at self.old id)
+            ≡ record { tree = self.new; answer = answer }) }
         ensures err { OnErr result (self.new ≡ self.old) }
     {
         let Some(directory) = self.get(id) else {
@@ -46,7 +50,9 @@ impl Directories {
         name: &Name,
         file: u64,
     ) -> Result<NameAnswer, AllocError>
-        ensures ok { IfOk result (λ answer. filed_in self.old id name.now file (dir_at self.old id) ≡ record { tree = self.new; answer = answer }) }
+        ensures ok { IfOk result
+            (λ answer. addfile_outcome self.old id name.now file (dir_at self.old id)
+            ≡ record { tree = self.new; answer = answer }) }
         ensures err { OnErr result (self.new ≡ self.old) }
     {
         let Some(directory) = self.get(id) else {

@@ -1,5 +1,5 @@
 ghost use Rattle.std.specs.Prelude.{◌≡◌, IfOk, OnOk, OnErr, option_copied};
-ghost use Rattle.name_store.specs.NameTrees.{dir_at, dir_in, dir_of, entered, freed, is_same_entry, mount_fault, move_answer, move_fault, moved_in, over_fault, settled, unlinked};
+ghost use Rattle.name_store.specs.NameTrees.{dir_at, dir_in, dir_of, with_entry_at, without_directory, is_same_entry, mount_fault, move_answer, move_fault, move_outcome, over_fault, with_parent_at, without_entry_at};
 
 use crate::directories::Directories;
 use crate::operation::{NameAnswer, Node};
@@ -16,7 +16,8 @@ impl Directories {
         other: &Name,
         slash: bool,
     ) -> Result<NameAnswer, AllocError>
-        ensures ok { IfOk result (λ answer. moved_in self.old from name.now to other.now slash (dir_at self.old from) (dir_at self.old to)
+        ensures ok { IfOk result (λ answer. move_outcome self.old from name.now to other.now slash
+            (dir_at self.old from) (dir_at self.old to)
             ≡ record { tree = self.new; answer = answer }) }
         ensures err { OnErr result (self.new ≡ self.old) }
     {
@@ -84,13 +85,15 @@ impl Directories {
         node: Node,
         replaced: Option<u64>,
     ) -> Result<(), AllocError>
-        ensures ok { OnOk result (self.new ≡ freed (settled (unlinked (entered self.old to other node) from name.now) (dir_of node) to) replaced) }
+        ensures ok { OnOk result (self.new ≡ without_directory (with_parent_at
+            (without_entry_at (with_entry_at self.old to other node) from name.now)
+            (dir_of node) to) replaced) }
         ensures err { OnErr result (self.new ≡ self.old) }
     {
         let child = directory_of(&node);
         self.enter(to, other, node)?;
         self.unlink(from, name);
-        self.settle(child, to);
+        self.set_parent(child, to);
         self.free(replaced);
         Ok(())
     }

@@ -35,6 +35,7 @@ impl NameList {
         Ok(())
     }
 
+    /// The names, in their order.
     pub fn as_slice(&self) -> &[Name]
         ensures { result.now ≡ self.now }
     {

@@ -43,7 +43,8 @@ impl NameTree {
 
     /// Takes one step, which is the definition's. Want of memory changes nothing.
     pub fn apply(&mut self, op: &NameOp) -> Result<NameAnswer, AllocError>
-        ensures ok { IfOk result (λ answer. nstep self.old op.now ≡ record { tree = self.new; answer = answer }) }
+        ensures ok { IfOk result
+            (λ answer. nstep self.old op.now ≡ record { tree = self.new; answer = answer }) }
         ensures form { IfOk result (IsForm op.now) }
         ensures err { OnErr result (self.new ≡ self.old) }
 
@@ -51,7 +52,7 @@ impl NameTree {
         ensures unchanged { IfOk result (λ answer. LeavesTree answer → self.new ≡ self.old) }
         ensures sound { IsSound self.new }
         // What only looks or removes takes no memory but for the text of its answer.
-        ensures spares { IsSpare op.now → HasNoText (nstep self.old op.now).answer → IsOk result }
+        ensures succeeds { IsSpare op.now → HasNoText (nstep self.old op.now).answer → IsOk result }
     {
         self.directories.step(op)
     }

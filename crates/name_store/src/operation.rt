@@ -23,7 +23,7 @@ impl Node {
     /// A copy. It takes memory for a link's text alone.
     pub(crate) fn copy(&self) -> Result<Node, AllocError>
         ensures ok { IfOk result (λ node. node ≡ self.now) }
-        ensures spares { IsPlain self.now → IsOk result }
+        ensures succeeds { IsPlain self.now → IsOk result }
     {
         match self {
             Node::Dir(id) => Ok(Node::Dir(*id)),
@@ -54,7 +54,7 @@ pub enum NameOp {
     /// Moves the first name's entry to the second directory and name, in the place of what it replaces. The
     /// flag says that a slash follows either name.
     Move(u64, Name, u64, Name, bool),
-    /// At most 32 names of that directory, from that position on, in the order of their bytes.
+    /// At most `LIST_MAX` names of that directory, from that position on, in the order of their bytes.
     List(u64, u32),
 }
 
@@ -65,20 +65,25 @@ pub enum NameAnswer {
     Gone,
     /// The directory has no such name.
     Absent,
+    /// What has that name, or the parent.
     Found(Node),
     /// The new directory's or link's id.
     Made(u64),
     /// The name is there already, so no file was entered.
     Taken(Node),
+    /// The file was entered, or the directory removed.
     Done,
     /// The file with that id was removed from the directory.
     RemovedFile(u64),
+    /// A link was removed from the directory.
     RemovedLink,
     /// Both names are one entry, which stays.
     Same,
     /// The entry was moved, and the file with that id replaced.
     Over(u64),
+    /// The entry was moved, and no file replaced.
     Moved,
+    /// At most `LIST_MAX` names, in the order of their bytes.
     Names(NameList),
     /// The error that refuses the operation.
     Fault(Errno),

@@ -1,5 +1,5 @@
 ghost use Rattle.std.specs.Prelude.{◌≡◌};
-ghost use Rattle.name_store.specs.NameTrees.{dir_at, removed_dir_in, removed_file_in};
+ghost use Rattle.name_store.specs.NameTrees.{dir_at, remdir_outcome, remfile_outcome};
 
 use crate::directories::Directories;
 use crate::operation::{NameAnswer, Node};
@@ -7,7 +7,8 @@ use wf_core::{Errno, Name};
 
 impl Directories {
     pub(crate) fn remfile(&mut self, id: u64, name: &Name, slash: bool) -> NameAnswer
-        ensures { removed_file_in self.old id name.now slash (dir_at self.old id) ≡ record { tree = self.new; answer = result } }
+        ensures { remfile_outcome self.old id name.now slash (dir_at self.old id)
+            ≡ record { tree = self.new; answer = result } }
     {
         let Some(directory) = self.get(id) else {
             return NameAnswer::Gone;
@@ -24,7 +25,8 @@ impl Directories {
     }
 
     pub(crate) fn remdir(&mut self, id: u64, name: &Name) -> NameAnswer
-        ensures { removed_dir_in self.old id name.now (dir_at self.old id) ≡ record { tree = self.new; answer = result } }
+        ensures { remdir_outcome self.old id name.now (dir_at self.old id)
+            ≡ record { tree = self.new; answer = result } }
     {
         let Some(directory) = self.get(id) else {
             return NameAnswer::Gone;

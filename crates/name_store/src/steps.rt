@@ -1,5 +1,5 @@
 ghost use Rattle.std.specs.Prelude.{◌≡◌, IfOk, IsOk, OnErr};
-ghost use Rattle.name_store.specs.NameTrees.{dir_at, listed, looked_up, nstep, parent_in};
+ghost use Rattle.name_store.specs.NameTrees.{dir_at, list_answer, look_answer, nstep, parent_answer};
 ghost use Rattle.name_store.specs.Forms.{HasNoText, IsForm, IsSpare};
 
 use crate::directories::Directories;
@@ -10,10 +10,11 @@ use wf_core::Name;
 impl Directories {
     /// Takes one step, which is the definition's. Want of memory changes nothing.
     pub(crate) fn step(&mut self, op: &NameOp) -> Result<NameAnswer, AllocError>
-        ensures ok { IfOk result (λ answer. nstep self.old op.now ≡ record { tree = self.new; answer = answer }) }
+        ensures ok { IfOk result
+            (λ answer. nstep self.old op.now ≡ record { tree = self.new; answer = answer }) }
         ensures form { IfOk result (IsForm op.now) }
         ensures err { OnErr result (self.new ≡ self.old) }
-        ensures spares { IsSpare op.now → HasNoText (nstep self.old op.now).answer → IsOk result }
+        ensures succeeds { IsSpare op.now → HasNoText (nstep self.old op.now).answer → IsOk result }
     {
         match op {
             NameOp::Look(id, name) => self.look(*id, name),
@@ -31,8 +32,8 @@ impl Directories {
     }
 
     fn look(&self, id: u64, name: &Name) -> Result<NameAnswer, AllocError>
-        ensures ok { IfOk result (λ answer. answer ≡ looked_up (dir_at self.now id) name.now) }
-        ensures spares { HasNoText (looked_up (dir_at self.now id) name.now) → IsOk result }
+        ensures ok { IfOk result (λ answer. answer ≡ look_answer (dir_at self.now id) name.now) }
+        ensures succeeds { HasNoText (look_answer (dir_at self.now id) name.now) → IsOk result }
     {
         let Some(directory) = self.get(id) else {
             return Ok(NameAnswer::Gone);
@@ -44,7 +45,7 @@ impl Directories {
     }
 
     fn parent(&self, id: u64) -> NameAnswer
-        ensures { result ≡ parent_in (dir_at self.now id) }
+        ensures { result ≡ parent_answer (dir_at self.now id) }
     {
         match self.get(id) {
             Some(directory) => NameAnswer::Found(Node::Dir(directory.parent())),
@@ -53,8 +54,8 @@ impl Directories {
     }
 
     fn list(&self, id: u64, start: u32) -> Result<NameAnswer, AllocError>
-        ensures ok { IfOk result (λ answer. answer ≡ listed (dir_at self.now id) start) }
-        ensures spares { HasNoText (listed (dir_at self.now id) start) → IsOk result }
+        ensures ok { IfOk result (λ answer. answer ≡ list_answer (dir_at self.now id) start) }
+        ensures succeeds { HasNoText (list_answer (dir_at self.now id) start) → IsOk result }
     {
         match self.get(id) {
             Some(directory) => Ok(NameAnswer::Names(directory.names(self.alloc(), start)?)),

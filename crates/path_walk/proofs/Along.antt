@@ -12,6 +12,7 @@ use Rattle.path_walk.specs.declared.call.Need.{Need}
 use Rattle.path_walk.specs.declared.call.Need.TheVariants.{Step as StepNeed, Done as DoneNeed}
 use Rattle.path_walk.specs.declared.trail.Stage.{Stage}
 use Rattle.path_walk.specs.declared.trail.Stage.TheVariants.{Start}
+use Rattle.wf_core.specs.Limits.{path_names_max}
 use Rattle.path_walk.specs.Store.{Store, Stepped, cstep}
 use Rattle.path_walk.specs.Posix.{replied}
 use Rattle.path_walk.specs.Walk.{Program, finished, asks, Step, step_of, Takes, Begins, Walk, run, program}
@@ -29,7 +30,7 @@ Tells (Some old) (Some new) P = P old new
 pub record Along {B : Type 0} (ran : B → List Step → B → Type 0) (told : B → Option Store) (call : Call) (first now : B) (stage : Stage) (answer : Option StepAnswer) : Type 0 where
   pub steps : List Step
   pub so_far : ran first steps now
-  pub within : length steps + steps_left stage ≤ 256
+  pub within : length steps + steps_left stage ≤ path_names_max
   pub expects : Expects stage answer
   pub takes : (rest : List Step) (reply : Reply) → Takes (resumed stage answer) rest reply → Takes (program call) (steps ++ rest) reply
   pub begins : (rest : List Step) → Begins (resumed stage answer) rest → Begins (program call) (steps ++ rest)
@@ -114,7 +115,7 @@ on_err (Ok reply) P Q h q = cc
 on_err (Err error) P Q h q = q
 
 -- the machine found no memory: the steps so far are a beginning
-pub stopped : {B : Type 0} (ran : B → List Step → B → Type 0) (told : B → Option Store) (call : Call) (first now : B) (stage : Stage) (given : Option StepAnswer) (r : Result Reply AllocError) → IsErr r → Along ran told call first now stage given → (steps : List Step) × ran first steps now × (length steps ≤ 256) × MatchResult r (λ reply. Walk call steps reply) (λ _. Begins (program call) steps)
+pub stopped : {B : Type 0} (ran : B → List Step → B → Type 0) (told : B → Option Store) (call : Call) (first now : B) (stage : Stage) (given : Option StepAnswer) (r : Result Reply AllocError) → IsErr r → Along ran told call first now stage given → (steps : List Step) × ran first steps now × (length steps ≤ path_names_max) × MatchResult r (λ reply. Walk call steps reply) (λ _. Begins (program call) steps)
 stopped ran told call first now stage given r e along = (
   along.steps,
   along.so_far,
@@ -123,7 +124,7 @@ stopped ran told call first now stage given r e along = (
 )
 
 -- a step found no memory: it is the last of a beginning
-pub refused : {B : Type 0} (ran : B → List Step → B → Type 0) (told : B → Option Store) (ran_on : (a b c : B) (s t : List Step) → ran a s b → ran b t c → ran a (s ++ t) c) (call : Call) (first now new : B) (stage next : Stage) (given : Option StepAnswer) (need : Need) (error : AllocError) (cell : CellId) (op : StoreOp) (r : Result Reply AllocError) → IsErr r → Along ran told call first now stage given → need ≡ StepNeed cell op → Shows need (resumed stage given) next → Falls need (steps_left stage) next → ran now (step_of cell op (Err error) ∷ []) new → (steps : List Step) × ran first steps new × (length steps ≤ 256) × MatchResult r (λ reply. Walk call steps reply) (λ _. Begins (program call) steps)
+pub refused : {B : Type 0} (ran : B → List Step → B → Type 0) (told : B → Option Store) (ran_on : (a b c : B) (s t : List Step) → ran a s b → ran b t c → ran a (s ++ t) c) (call : Call) (first now new : B) (stage next : Stage) (given : Option StepAnswer) (need : Need) (error : AllocError) (cell : CellId) (op : StoreOp) (r : Result Reply AllocError) → IsErr r → Along ran told call first now stage given → need ≡ StepNeed cell op → Shows need (resumed stage given) next → Falls need (steps_left stage) next → ran now (step_of cell op (Err error) ∷ []) new → (steps : List Step) × ran first steps new × (length steps ≤ path_names_max) × MatchResult r (λ reply. Walk call steps reply) (λ _. Begins (program call) steps)
 refused ran told ran_on call first now new stage next given need error cell op r e along is shows falls one =
     let step = step_of cell op (Err error) in
     let fewer : steps_left next < steps_left stage = subst (λ n. Falls n (steps_left stage) next) is falls in (
@@ -134,7 +135,7 @@ refused ran told ran_on call first now new stage next given need error cell op r
     )
 
 -- the machine is over: the steps are the call's, and the reply is theirs
-pub ended : {B : Type 0} (ran : B → List Step → B → Type 0) (told : B → Option Store) (call : Call) (first now : B) (stage next : Stage) (given : Option StepAnswer) (need : Need) (reply : Reply) → Along ran told call first now stage given → need ≡ DoneNeed reply → Shows need (resumed stage given) next → (steps : List Step) × ran first steps now × (length steps ≤ 256) × Walk call steps reply
+pub ended : {B : Type 0} (ran : B → List Step → B → Type 0) (told : B → Option Store) (call : Call) (first now : B) (stage next : Stage) (given : Option StepAnswer) (need : Need) (reply : Reply) → Along ran told call first now stage given → need ≡ DoneNeed reply → Shows need (resumed stage given) next → (steps : List Step) × ran first steps now × (length steps ≤ path_names_max) × Walk call steps reply
 ended ran told call first now stage next given need reply along is shows = (
   along.steps,
   along.so_far,

@@ -11,10 +11,10 @@ use Rattle.path_walk.specs.declared.call.Reply.TheVariants.{Fault}
 use Rattle.path_walk.specs.Store.{Store, names_at}
 use Rattle.path_walk.specs.Paths.{parts_of, front_of, last_of, path_fault}
 use Rattle.path_walk.specs.PathMeaning.{Place}
-use Rattle.path_walk.specs.Posix.{Outcome, made_in, made_under, made_at, making, status, leads, unless, posix}
+use Rattle.path_walk.specs.Posix.{CallOutcome, made_in, made_under, made_at, making, status, leads, outcome_unless, posix}
 
 -- the outcome is no error, or leaves the store as it was
-abbrev Spares : Store → Outcome → Type 0
+abbrev Spares : Store → CallOutcome → Type 0
 Spares store outcome = (error : Errno) → outcome.reply ≡ Fault error → outcome.store ≡ store
 
 in_spares : (store : Store) (here : ℕ) (name : List ℕ) (node : Option Node) → Spares store (made_in store here name node)
@@ -41,7 +41,7 @@ status_spares : (store : Store) (where_to : Result Place Errno) → Spares store
 status_spares store (Ok place) = λ e h. refl
 status_spares store (Err error) = λ e h. refl
 
-unless_spares : (store : Store) (fault : Option Errno) (outcome : Outcome) → Spares store outcome → Spares store (unless fault store outcome)
+unless_spares : (store : Store) (fault : Option Errno) (outcome : CallOutcome) → Spares store outcome → Spares store (outcome_unless fault store outcome)
 unless_spares store (Some error) outcome spares = λ e h. refl
 unless_spares store None outcome spares = spares
 

@@ -1,54 +1,9 @@
 -- What a tree of names keeps when a new directory is made in it.
-use Rattle.std.proofs.Common.{◌≡◌, ℕ, zero, suc, Bool, true, false, List, [], ◌∷◌, ◌++◌, length, Option, None, Some, slice_get, slice_set, refl, sym, ap, subst, ◌∙◌}
-use Rattle.std.specs.declared.cmp.Ordering.{Ordering}
-use Rattle.std.specs.declared.cmp.Ordering.TheVariants.{Less, Equal, Greater}
-use Rattle.std.specs.Ordering.{is_eq, match_ordering}
-use Rattle.std.specs.Cmp.Lexicographic.{nat_list_cmp_total}
-use Rattle.std.specs.Map.{lookup}
-use Rattle.std.specs.BTreeMap.{insert_entry, is_at}
-use Rattle.std.proofs.lemmas.Cmp.{tied_itself}
-use Rattle.std.proofs.lemmas.Map.Lookups.{exact_bytes}
+use Rattle.std.proofs.Common.{◌≡◌, ◌≢◌, ℕ, zero, suc, List, [], ◌∷◌, ◌++◌, length, Option, None, Some, slice_get, slice_set, refl, sym, ap, subst, ◌∙◌}
 use Rattle.name_store.specs.declared.operation.Node.{Node}
 use Rattle.name_store.specs.declared.operation.Node.TheVariants.{Dir}
-use Rattle.name_store.specs.NameTrees.{Tree, Listing, byte_order, in_slot, dir_at, entry_at, empty_in, with_entry, put_at, grown}
-
-abbrev Entries : Type 0
-Entries = List (List ℕ × Node)
-
--- what stands under a name
-abbrev at : List ℕ → Entries → Option Node
-at name entries = lookup (is_at (byte_order name)) entries
-
-tied : (name : List ℕ) → byte_order name name ≡ Equal
-tied name = tied_itself nat_list_cmp_total name
-
-same_tied : (first second : List ℕ) (o : Ordering) → byte_order first second ≡ o → is_eq o ≡ true → first ≡ second
-same_tied first second Less h e = cc
-same_tied first second Equal h e = exact_bytes first second h
-same_tied first second Greater h e = cc
-
-entered_step : (name : List ℕ) (node : Node) (entry : List ℕ × Node) (entries rest : Entries) (o : Ordering) → byte_order name entry.0 ≡ o → at name rest ≡ Some node → at name (match_ordering o ((name, node) ∷ entry ∷ entries) ((entry.0, node) ∷ entries) (entry ∷ rest)) ≡ Some node
-entered_step name node entry entries rest Less h found = rw (tied name) refl
-entered_step name node entry entries rest Equal h found = rw h refl
-entered_step name node entry entries rest Greater h found = rw h found
-
--- the new entry is found
-entered : (entries : Entries) (name : List ℕ) (node : Node) → at name (insert_entry byte_order entries name node) ≡ Some node
-entered [] name node = rw (tied name) refl
-entered (entry ∷ entries) name node = entered_step name node entry entries _ (byte_order name entry.0) refl (entered entries name node)
-
-other_step : (name other : List ℕ) (node : Node) (entry : List ℕ × Node) (entries rest : Entries) (o : Ordering) → is_at (byte_order other) name ≡ false → byte_order name entry.0 ≡ o → at other rest ≡ at other entries → at other (match_ordering o ((name, node) ∷ entry ∷ entries) ((entry.0, node) ∷ entries) (entry ∷ rest)) ≡ at other (entry ∷ entries)
-other_step name other node entry entries rest Less apart h found = rw apart refl
-other_step name other node entry entries rest Equal apart h found =
-    let passes : is_at (byte_order other) entry.0 ≡ false = subst (λ (k : List ℕ). is_at (byte_order other) k ≡ false) (exact_bytes name entry.0 h) apart in
-    rw passes refl
-other_step name other node entry entries rest Greater apart h found = rw found refl
-
--- an entry of another name is found as before
-entered_other : (entries : Entries) (name other : List ℕ) (node : Node) → is_at (byte_order other) name ≡ false → at other (insert_entry byte_order entries name node) ≡ at other entries
-entered_other [] name other node apart = rw apart refl
-entered_other (entry ∷ entries) name other node apart =
-    other_step name other node entry entries _ (byte_order name entry.0) apart refl (entered_other entries name other node apart)
+use Rattle.name_store.specs.NameTrees.{Tree, Listing, in_slot, dir_at, entry_at, empty_in, with_entry, with_change_at, with_new_directory}
+use Rattle.name_store.proofs.Entries.{entered_here, entered_other}
 
 -- the later directory has the same parent, and each entry of the earlier
 pub record Keeps (earlier later : Listing) : Type 0 where
@@ -59,17 +14,15 @@ keeps_itself : (directory : Listing) → Keeps directory directory
 keeps_itself directory = record { parent = refl; entries = λ name node h. h }
 
 -- two names of which one is there and one is not are apart
-apart_from : (directory : Listing) (name other : List ℕ) (node : Node) (same : Bool) → is_at (byte_order other) name ≡ same → entry_at directory name ≡ None → entry_at directory other ≡ Some node → is_at (byte_order other) name ≡ false
-apart_from directory name other node true h none some =
-    let one : other ≡ name = same_tied other name (byte_order other name) refl h in
-    let clash : Some node ≡ None = sym some ∙ ap (entry_at directory) one ∙ none in
+apart_from : (directory : Listing) (name other : List ℕ) (node : Node) → entry_at directory name ≡ None → entry_at directory other ≡ Some node → other ≢ name
+apart_from directory name other node none some e =
+    let clash : Some node ≡ None = sym some ∙ ap (entry_at directory) e ∙ none in
     cc
-apart_from directory name other node false h none some = h
 
 keeps_others : (directory : Listing) (name : List ℕ) (node : Node) → entry_at directory name ≡ None → Keeps directory (with_entry directory name node)
 keeps_others directory name node none = record {
   parent = refl;
-  entries = λ other old h. entered_other directory.entries name other node (apart_from directory name other old (is_at (byte_order other) name) refl none h) ∙ h;
+  entries = λ other old h. entered_other directory.entries name other node (apart_from directory name other old none h) ∙ h;
 }
 
 -- what stands in a list stands there still when more follows
@@ -105,9 +58,9 @@ module _ (tree : Tree) (id : ℕ) (directory : Listing) (name : List ℕ) (is_th
   new_entry = with_entry directory name (Dir (length tree))
 
   -- the slots of the tree in which the directory has a new one
-  slots_are : grown tree id name ≡ slice_set tree id (Some new_entry) ++ Some (empty_in id) ∷ []
+  slots_are : with_new_directory tree id name ≡ slice_set tree id (Some new_entry) ++ Some (empty_in id) ∷ []
   slots_are =
-      ap (λ (d : Option Listing). put_at tree id (λ old. with_entry old name (Dir (length tree))) d ++ Some (empty_in id) ∷ []) is_there
+      ap (λ (d : Option Listing). with_change_at tree id (λ old. with_entry old name (Dir (length tree))) d ++ Some (empty_in id) ∷ []) is_there
 
   kept : entry_at directory name ≡ None → (other : ℕ) (old : Listing) → dir_at tree other ≡ Some old → other ≡ id → Keeps old new_entry
   kept none other old h e =
@@ -116,16 +69,16 @@ module _ (tree : Tree) (id : ℕ) (directory : Listing) (name : List ℕ) (is_th
       subst (λ (d : Listing). Keeps d new_entry) same (keeps_others directory name (Dir (length tree)) none)
 
   -- a tree in which a directory was made under a name that had none extends the tree before
-  pub grown_extends : entry_at directory name ≡ None → Extends tree (grown tree id name)
+  pub grown_extends : entry_at directory name ≡ None → Extends tree (with_new_directory tree id name)
   grown_extends none other old h =
       let (slot, found, (new, is, keeps)) = after_set (λ (slot : Option Listing). (new : Listing) × (slot ≡ Some new) × Keeps old new) tree (Some (empty_in id) ∷ []) id other (Some new_entry) (Some old) (slot_of (slice_get tree other) old h) (λ e. (new_entry, refl, kept none other old h e)) (old, refl, keeps_itself old) in
       (new, ap (λ (t : Tree). dir_at t other) slots_are ∙ ap in_slot found ∙ is, keeps)
 
   -- and has the new entry where it was made
-  pub grown_at : dir_at (grown tree id name) id ≡ Some new_entry
+  pub grown_at : dir_at (with_new_directory tree id name) id ≡ Some new_entry
   grown_at =
       ap (λ (t : Tree). dir_at t id) slots_are
       ∙ ap in_slot (set_found tree (Some (empty_in id) ∷ []) id (Some new_entry) (Some directory) (slot_of (slice_get tree id) directory is_there))
 
 pub entry_is_there : (directory : Listing) (name : List ℕ) (node : Node) → entry_at (with_entry directory name node) name ≡ Some node
-entry_is_there directory name node = entered directory.entries name node
+entry_is_there directory name node = entered_here directory.entries name node

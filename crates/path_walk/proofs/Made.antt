@@ -4,15 +4,16 @@ use Rattle.wf_core.specs.declared.errno.Errno.{Errno}
 use Rattle.wf_core.specs.declared.errno.Errno.TheVariants.{Eexist}
 use Rattle.name_store.specs.declared.operation.Node.{Node}
 use Rattle.name_store.specs.declared.operation.Node.TheVariants.{Dir as DirNode}
-use Rattle.name_store.specs.NameTrees.{Tree, Listing, dir_at, entry_at, grown, with_entry}
+use Rattle.name_store.specs.NameTrees.{Tree, Listing, dir_at, entry_at, with_new_directory, with_entry}
 use Rattle.path_walk.specs.declared.part.Part.{Part}
 use Rattle.path_walk.specs.declared.part.Part.TheVariants.{Here, Up, Down, TooLong}
 use Rattle.path_walk.specs.declared.call.Call.TheVariants.{Mkdir, Stat}
 use Rattle.path_walk.specs.declared.call.Reply.TheVariants.{Done, Dir, Fault}
 use Rattle.path_walk.specs.Store.{Store, names_at, with_names}
-use Rattle.path_walk.specs.Paths.{parts_of, front_of, last_of, path_fault, names_max}
+use Rattle.path_walk.specs.Paths.{parts_of, front_of, last_of, path_fault}
+use Rattle.wf_core.specs.Limits.{path_names_max}
 use Rattle.path_walk.specs.PathMeaning.{Place, resolve}
-use Rattle.path_walk.specs.Posix.{Outcome, leads, made_in, made_under, made_at, making, status, unless, posix}
+use Rattle.path_walk.specs.Posix.{CallOutcome, leads, made_in, made_under, made_at, making, status, outcome_unless, posix}
 use Rattle.path_walk.proofs.Growth.{grown_extends, grown_at, entry_is_there}
 use Rattle.path_walk.proofs.Leading.{leads_still, leads_down}
 
@@ -26,10 +27,10 @@ record Made (store : Store) (last : Option Part) (front : Result Place Errno) (l
   pub front_is : front ≡ Ok (record { names = suc names; directory = here })
   pub is_there : dir_at (names_at store 0) here ≡ Some directory
   pub is_new : entry_at directory name ≡ None
-  pub left_is : left ≡ with_names store 0 (grown (names_at store 0) here name)
+  pub left_is : left ≡ with_names store 0 (with_new_directory (names_at store 0) here name)
 
 -- an outcome that is `Done` is that of a directory made
-abbrev Makes : Store → Option Part → Result Place Errno → Outcome → Type 0
+abbrev Makes : Store → Option Part → Result Place Errno → CallOutcome → Type 0
 Makes store last front outcome = outcome.reply ≡ Done → Made store last front outcome.store
 
 in_makes : (store : Store) (name : List ℕ) (names here : ℕ) (directory : Listing) (node : Option Node) → dir_at (names_at store 0) here ≡ Some directory → entry_at directory name ≡ node → Makes store (Some (Down name)) (Ok (record { names = suc names; directory = here })) (made_in store here name node)
@@ -63,13 +64,13 @@ making_makes store last (Ok place) = at_makes store last place.names place.direc
 making_makes store last (Err error) = λ h. cc
 
 -- a call that is `Done` has a path that may be walked
-no_fault : (store : Store) (fault : Option Errno) (outcome : Outcome) → (unless fault store outcome).reply ≡ Done → fault ≡ None
+no_fault : (store : Store) (fault : Option Errno) (outcome : CallOutcome) → (outcome_unless fault store outcome).reply ≡ Done → fault ≡ None
 no_fault store (Some error) outcome h = cc
 no_fault store None outcome h = refl
 
 -- and its outcome is the walk's
-walked : (store : Store) (fault : Option Errno) (outcome : Outcome) → fault ≡ None → unless fault store outcome ≡ outcome
-walked store fault outcome none = ap (λ (f : Option Errno). unless f store outcome) none
+walked : (store : Store) (fault : Option Errno) (outcome : CallOutcome) → fault ≡ None → outcome_unless fault store outcome ≡ outcome
+walked store fault outcome none = ap (λ (f : Option Errno). outcome_unless f store outcome) none
 
 -- the names that were put in the place of some that had a directory are there
 put_names : (names : List Tree) (tree : Tree) (id : ℕ) (directory : Listing) → dir_at (unwrap_or (slice_get names 0) []) id ≡ Some directory → unwrap_or (slice_get (slice_set names 0 tree) 0) [] ≡ tree
@@ -78,7 +79,7 @@ put_names (old ∷ names) tree id directory h = refl
 
 module _ (store left : Store) (parts : List Part) (made : Made store (last_of parts) (leads store (front_of parts)) left) where
   abbrev later : Tree
-  later = grown (names_at store 0) made.here made.name
+  later = with_new_directory (names_at store 0) made.here made.name
 
   abbrev new_entry : Listing
   new_entry = with_entry made.directory made.name (DirNode (length (names_at store 0)))
@@ -88,8 +89,8 @@ module _ (store left : Store) (parts : List Part) (made : Made store (last_of pa
 
   front_leads : leads left (front_of parts) ≡ Ok (record { names = suc made.names; directory = made.here })
   front_leads =
-      ap (λ (tree : Tree). resolve tree (front_of parts) names_max 0) left_names
-      ∙ leads_still (names_at store 0) later (grown_extends (names_at store 0) made.here made.directory made.name made.is_there made.is_new) (front_of parts) names_max 0 _ made.front_is
+      ap (λ (tree : Tree). resolve tree (front_of parts) path_names_max 0) left_names
+      ∙ leads_still (names_at store 0) later (grown_extends (names_at store 0) made.here made.directory made.name made.is_there made.is_new) (front_of parts) path_names_max 0 _ made.front_is
 
   grows_at : dir_at (names_at left 0) made.here ≡ Some new_entry
   grows_at = ap (λ (tree : Tree). dir_at tree made.here) left_names ∙ grown_at (names_at store 0) made.here made.directory made.name made.is_there
@@ -100,7 +101,7 @@ module _ (store left : Store) (parts : List Part) (made : Made store (last_of pa
   stat_finds : (status left (leads left parts)).reply ≡ Dir
   stat_finds =
       ap (λ (r : Result Place Errno). (status left r).reply)
-      (leads_down (names_at left 0) parts made.name made.names made.here 0 (length (names_at store 0)) new_entry names_max made.last_is front_leads grows_at has_entry)
+      (leads_down (names_at left 0) parts made.name made.names made.here 0 (length (names_at store 0)) new_entry path_names_max made.last_is front_leads grows_at has_entry)
 
   mkdir_refuses : (making left (last_of parts) (leads left (front_of parts))).reply ≡ Fault Eexist
   mkdir_refuses =
@@ -118,12 +119,12 @@ pub made_is_there : (store : Store) (path : List ℕ) → (posix store (Mkdir pa
 made_is_there store path done =
     let none : path_fault path ≡ None = no_fault store (path_fault path) _ done in
     let left : Store = (posix store (Mkdir path)).store in
-    ap (λ (o : Outcome). o.reply) (walked left (path_fault path) (status left (leads left (parts_of path))) none)
+    ap (λ (o : CallOutcome). o.reply) (walked left (path_fault path) (status left (leads left (parts_of path))) none)
     ∙ stat_finds store left (parts_of path) (makes store path done none)
 
 pub made_once : (store : Store) (path : List ℕ) → (posix store (Mkdir path)).reply ≡ Done → (posix (posix store (Mkdir path)).store (Mkdir path)).reply ≡ Fault Eexist
 made_once store path done =
     let none : path_fault path ≡ None = no_fault store (path_fault path) _ done in
     let left : Store = (posix store (Mkdir path)).store in
-    ap (λ (o : Outcome). o.reply) (walked left (path_fault path) (making left (last_of (parts_of path)) (leads left (front_of (parts_of path)))) none)
+    ap (λ (o : CallOutcome). o.reply) (walked left (path_fault path) (making left (last_of (parts_of path)) (leads left (front_of (parts_of path)))) none)
     ∙ mkdir_refuses store left (parts_of path) (makes store path done none)

@@ -6,7 +6,7 @@ use Rattle.name_store.specs.declared.operation.Node.{Node}
 use Rattle.name_store.specs.declared.operation.Node.TheVariants.{Dir as DirNode, Link as LinkNode, File as FileNode, Mount as MountNode}
 use Rattle.name_store.specs.declared.operation.NameOp.{NameOp}
 use Rattle.name_store.specs.declared.operation.NameOp.TheVariants.{Look, Parent}
-use Rattle.name_store.specs.NameTrees.{Tree, Listing, dir_at, entry_at, nstep, parent_in, looked_up, found, made_beside, made_in as made_in_tree, Outcome as NameOutcome}
+use Rattle.name_store.specs.NameTrees.{Tree, Listing, dir_at, entry_at, nstep, parent_answer, look_answer, look_answer_at, makedir_outcome_at, makedir_outcome as made_in_tree, NamesOutcome}
 use Rattle.path_walk.specs.declared.part.Part.{Part}
 use Rattle.path_walk.specs.declared.part.Part.TheVariants.{Here, Up, Down, TooLong}
 use Rattle.path_walk.specs.declared.step.StoreAnswer.TheVariants.{Names as NamesAnswer}
@@ -15,10 +15,11 @@ use Rattle.path_walk.specs.declared.call.Call.{Call}
 use Rattle.path_walk.specs.declared.call.Call.TheVariants.{Mkdir, Stat}
 use Rattle.path_walk.specs.declared.call.Reply.TheVariants.{Fault}
 use Rattle.path_walk.specs.Store.{Store, names_at, with_names}
-use Rattle.path_walk.specs.Paths.{parts_of, front_of, last_of, path_fault, names_max}
+use Rattle.path_walk.specs.Paths.{parts_of, front_of, last_of, path_fault}
+use Rattle.wf_core.specs.Limits.{path_names_max}
 use Rattle.path_walk.specs.PathMeaning.{Place, into, below, above, along, resolve}
-use Rattle.path_walk.specs.Posix.{Outcome, replied, made_at, made_under, made_in, status, leads, making as making_at, unless as unless_at, posix}
-use Rattle.path_walk.specs.Walk.{Program, way_of, led, goes, walk, asked, making, made_reply, unless, program, run}
+use Rattle.path_walk.specs.Posix.{CallOutcome, replied, made_at, made_under, made_in, status, leads, making as making_at, outcome_unless, posix}
+use Rattle.path_walk.specs.Walk.{Program, way_of, led, goes, walk, asked, making, made_reply, program_unless, program, run}
 
 -- putting back the names that are there changes nothing
 put_back : (names : List Tree) → slice_set names 0 (unwrap_or (slice_get names 0) []) ≡ names
@@ -29,7 +30,7 @@ pub unchanged : (store : Store) → with_names store 0 (names_at store 0) ≡ st
 unchanged store = ap (λ (names : List Tree). let s : Store = record { names = names } in s) (put_back store.names)
 
 -- a walk that ended: on where it led, or its error
-abbrev ended : Store → Result Place Errno → (ℕ → ℕ → Program) → Outcome
+abbrev ended : Store → Result Place Errno → (ℕ → ℕ → Program) → CallOutcome
 ended store (Ok place) next = run (next place.names place.directory) store
 ended store (Err error) next = replied store (Fault error)
 
@@ -42,18 +43,18 @@ goes_run store op next h =
 abbrev Leads : Store → List Part → (ℕ → ℕ → Program) → Type 0
 Leads store rest next = (names here : ℕ) → run (walk rest names here next) store ≡ ended store (resolve (names_at store 0) rest names here) next
 
-entry_resolves : (store : Store) (rest : List Part) (names : ℕ) (next : ℕ → ℕ → Program) (node : Option Node) → Leads store rest next → run (led (way_of (Answered (NamesAnswer (found node)))) (λ there. walk rest names there next)) store ≡ ended store (along (into node) (λ there. resolve (names_at store 0) rest names there)) next
+entry_resolves : (store : Store) (rest : List Part) (names : ℕ) (next : ℕ → ℕ → Program) (node : Option Node) → Leads store rest next → run (led (way_of (Answered (NamesAnswer (look_answer_at node)))) (λ there. walk rest names there next)) store ≡ ended store (along (into node) (λ there. resolve (names_at store 0) rest names there)) next
 entry_resolves store rest names next None on = refl
 entry_resolves store rest names next (Some (DirNode id)) on = on names id
 entry_resolves store rest names next (Some (LinkNode id text)) on = refl
 entry_resolves store rest names next (Some (FileNode file)) on = refl
 entry_resolves store rest names next (Some (MountNode backend)) on = refl
 
-below_resolves : (store : Store) (rest : List Part) (names : ℕ) (name : List ℕ) (next : ℕ → ℕ → Program) (directory : Option Listing) → Leads store rest next → run (led (way_of (Answered (NamesAnswer (looked_up directory name)))) (λ there. walk rest names there next)) store ≡ ended store (along (below directory name) (λ there. resolve (names_at store 0) rest names there)) next
+below_resolves : (store : Store) (rest : List Part) (names : ℕ) (name : List ℕ) (next : ℕ → ℕ → Program) (directory : Option Listing) → Leads store rest next → run (led (way_of (Answered (NamesAnswer (look_answer directory name)))) (λ there. walk rest names there next)) store ≡ ended store (along (below directory name) (λ there. resolve (names_at store 0) rest names there)) next
 below_resolves store rest names name next None on = refl
 below_resolves store rest names name next (Some directory) on = entry_resolves store rest names next (entry_at directory name) on
 
-above_resolves : (store : Store) (rest : List Part) (names : ℕ) (next : ℕ → ℕ → Program) (directory : Option Listing) → Leads store rest next → run (led (way_of (Answered (NamesAnswer (parent_in directory)))) (λ there. walk rest names there next)) store ≡ ended store (along (above directory) (λ there. resolve (names_at store 0) rest names there)) next
+above_resolves : (store : Store) (rest : List Part) (names : ℕ) (next : ℕ → ℕ → Program) (directory : Option Listing) → Leads store rest next → run (led (way_of (Answered (NamesAnswer (parent_answer directory)))) (λ there. walk rest names there next)) store ≡ ended store (along (above directory) (λ there. resolve (names_at store 0) rest names there)) next
 above_resolves store rest names next None on = refl
 above_resolves store rest names next (Some directory) on = on names directory.parent
 
@@ -75,10 +76,10 @@ resolves store (Down name ∷ rest) (suc names) here next =
     ∙ below_resolves store rest names name next (dir_at (names_at store 0) here) (λ n d. resolves store rest n d next)
 
 -- what the last step of `mkdir` replies and leaves
-abbrev makes : NameOutcome → Store → Outcome
+abbrev makes : NamesOutcome → Store → CallOutcome
 makes made store = record { store = with_names store 0 made.tree; reply = made_reply (Answered (NamesAnswer made.answer)) }
 
-makes_in : (store : Store) (here : ℕ) (name : List ℕ) (node : Option Node) → makes (made_beside (names_at store 0) here name node) store ≡ made_in store here name node
+makes_in : (store : Store) (here : ℕ) (name : List ℕ) (node : Option Node) → makes (makedir_outcome_at (names_at store 0) here name node) store ≡ made_in store here name node
 makes_in store here name (Some node) = ap (λ (s : Store). replied s (Fault Eexist)) (unchanged store)
 makes_in store here name None = refl
 
@@ -102,13 +103,13 @@ making_ends : (store : Store) (last : Option Part) (where_to : Result Place Errn
 making_ends store last (Ok place) = makes_at store last place.names place.directory
 making_ends store last (Err error) = refl
 
-stat_runs : (store : Store) (path : List ℕ) (fault : Option Errno) → run (unless fault (walk (parts_of path) names_max 0 asked)) store ≡ unless_at fault store (status store (leads store (parts_of path)))
+stat_runs : (store : Store) (path : List ℕ) (fault : Option Errno) → run (program_unless fault (walk (parts_of path) path_names_max 0 asked)) store ≡ outcome_unless fault store (status store (leads store (parts_of path)))
 stat_runs store path (Some error) = refl
-stat_runs store path None = resolves store (parts_of path) names_max 0 asked ∙ asked_ends store (leads store (parts_of path))
+stat_runs store path None = resolves store (parts_of path) path_names_max 0 asked ∙ asked_ends store (leads store (parts_of path))
 
-mkdir_runs : (store : Store) (path : List ℕ) (fault : Option Errno) → run (unless fault (walk (front_of (parts_of path)) names_max 0 (making (last_of (parts_of path))))) store ≡ unless_at fault store (making_at store (last_of (parts_of path)) (leads store (front_of (parts_of path))))
+mkdir_runs : (store : Store) (path : List ℕ) (fault : Option Errno) → run (program_unless fault (walk (front_of (parts_of path)) path_names_max 0 (making (last_of (parts_of path))))) store ≡ outcome_unless fault store (making_at store (last_of (parts_of path)) (leads store (front_of (parts_of path))))
 mkdir_runs store path (Some error) = refl
-mkdir_runs store path None = resolves store (front_of (parts_of path)) names_max 0 (making (last_of (parts_of path))) ∙ making_ends store (last_of (parts_of path)) (leads store (front_of (parts_of path)))
+mkdir_runs store path None = resolves store (front_of (parts_of path)) path_names_max 0 (making (last_of (parts_of path))) ∙ making_ends store (last_of (parts_of path)) (leads store (front_of (parts_of path)))
 
 pub steps_are_the_call : (store : Store) (call : Call) → run (program call) store ≡ posix store call
 steps_are_the_call store (Stat path) = stat_runs store path (path_fault path)

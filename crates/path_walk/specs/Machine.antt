@@ -10,7 +10,7 @@ use Rattle.path_walk.specs.declared.trail.Stage.{Stage}
 use Rattle.path_walk.specs.declared.trail.Stage.TheVariants.{Start, Walking, Making, Over}
 use Rattle.path_walk.specs.declared.call.Need.{Need}
 use Rattle.path_walk.specs.declared.call.Need.TheVariants.{Step, Done as DoneNeed}
-use Rattle.path_walk.specs.Paths.{names_max}
+use Rattle.wf_core.specs.Limits.{path_names_max}
 use Rattle.path_walk.specs.Walk.{Program, finished, asks, way_of, led, walk, asked, making, made_reply, program}
 
 -- what follows the walk
@@ -52,7 +52,7 @@ AsksRoot (Step (NamesCell backend) (NamesOp op)) = backend ≡ 0
 
 -- how many steps may still be asked for
 abbrev pub steps_left : Stage → ℕ
-steps_left (Start call) = names_max
+steps_left (Start call) = path_names_max
 steps_left (Walking trail) = trail.names
 steps_left Making = 0
 steps_left Over = 0

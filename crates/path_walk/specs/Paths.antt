@@ -2,6 +2,7 @@
 -- the root too, and the limits, are this project's own.
 use Rattle.std.specs.Prelude.{ℕ, ◌==◌, ◌-◌, if◌then◌else◌, not, nat_lt, List, length, map, filter, take, Option, None, Some, slice_get}
 use Rattle.std.specs.List.{slice_split}
+use Rattle.wf_core.specs.Limits.{name_max, path_max}
 use Rattle.wf_core.specs.Names.{is_slash, is_dot, is_dot_dot}
 use Rattle.wf_core.specs.declared.errno.Errno.{Errno}
 use Rattle.wf_core.specs.declared.errno.Errno.TheVariants.{Enoent, Enametoolong}
@@ -13,13 +14,12 @@ use Rattle.path_walk.specs.declared.part.Part.TheVariants.{Here, Up, Down, TooLo
 abbrev pub components : List ℕ → List (List ℕ)
 components path = filter (λ piece. not (length piece == 0)) (slice_split is_slash path)
 
--- what a component asks for: `.` to stay, `..` to go up, a name to go down (XBD 4.13). A name has at most 255
--- bytes, which is NAME_MAX of this project.
+-- what a component asks for: `.` to stay, `..` to go up, a name to go down (XBD 4.13)
 abbrev pub part_of : List ℕ → Part
 part_of component =
     if is_dot component then Here
     else if is_dot_dot component then Up
-    else if nat_lt 255 (length component) then TooLong
+    else if nat_lt name_max (length component) then TooLong
     else Down component
 
 abbrev pub parts_of : List ℕ → List Part
@@ -32,14 +32,10 @@ last_of parts = slice_get parts (length parts - 1)
 abbrev pub front_of : List Part → List Part
 front_of parts = take (length parts - 1) parts
 
--- the error of a path that is not walked at all: it is empty (XBD 4.13), or has more than 4,095 bytes, which is
--- PATH_MAX of this project without the byte 0 at the end
+-- the error of a path that is not walked at all: it is empty (XBD 4.13), or with the byte 0
+-- at its end it has more bytes than a path may have
 abbrev pub path_fault : List ℕ → Option Errno
 path_fault path =
     if length path == 0 then Some Enoent
-    else if nat_lt 4095 (length path) then Some Enametoolong
+    else if nat_lt (path_max - 1) (length path) then Some Enametoolong
     else None
-
--- the most names that one path may take: any component but `.` is taken when the walk comes to it (own)
-abbrev pub names_max : ℕ
-names_max = 256

@@ -22,8 +22,9 @@ use Rattle.path_walk.specs.declared.call.Call.TheVariants.{Mkdir, Stat}
 use Rattle.path_walk.specs.declared.call.Reply.{Reply}
 use Rattle.path_walk.specs.declared.call.Reply.TheVariants.{Done, Dir, Fault}
 use Rattle.path_walk.specs.Store.{Store, cstep}
-use Rattle.path_walk.specs.Posix.{Outcome, replied}
-use Rattle.path_walk.specs.Paths.{parts_of, front_of, last_of, path_fault, names_max}
+use Rattle.path_walk.specs.Posix.{CallOutcome, replied}
+use Rattle.path_walk.specs.Paths.{parts_of, front_of, last_of, path_fault}
+use Rattle.wf_core.specs.Limits.{path_names_max}
 
 -- what a call does: it is over with its reply, or it asks for a step and goes on from the answer
 pub data Program : Type 0 where
@@ -88,17 +89,17 @@ making (Some TooLong) names here = finished (Fault Enametoolong)
 making (Some (Down name)) names here = taken names (λ left.
     asks (NamesCell 0) (NamesOp (Makedir here name)) (λ answer. finished (made_reply answer)))
 
-abbrev pub unless : Option Errno → Program → Program
-unless (Some error) program = finished (Fault error)
-unless None program = program
+abbrev pub program_unless : Option Errno → Program → Program
+program_unless (Some error) program = finished (Fault error)
+program_unless None program = program
 
 -- the steps of a call
 abbrev pub program : Call → Program
-program (Stat path) = unless (path_fault path) (walk (parts_of path) names_max 0 asked)
-program (Mkdir path) = unless (path_fault path) (walk (front_of (parts_of path)) names_max 0 (making (last_of (parts_of path))))
+program (Stat path) = program_unless (path_fault path) (walk (parts_of path) path_names_max 0 asked)
+program (Mkdir path) = program_unless (path_fault path) (walk (front_of (parts_of path)) path_names_max 0 (making (last_of (parts_of path))))
 
 -- the same over a store that nobody else changes: each step is the definition's
-abbrev pub run : Program → Store → Outcome
+abbrev pub run : Program → Store → CallOutcome
 run (finished reply) store = replied store reply
 run (asks cell op next) store = let stepped = cstep store cell op in run (next (Answered stepped.answer)) stepped.store
 

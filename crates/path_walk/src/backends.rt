@@ -1,4 +1,5 @@
 ghost use Rattle.std.specs.Prelude.{◌≡◌, ◌≤◌, ◌<◌, ◌∷◌, ◌++◌, [], ℕ, List, length, Option, IfOk, MatchResult};
+ghost use Rattle.wf_core.specs.Limits.{path_names_max};
 ghost use Rattle.path_walk.specs.Store.{Store};
 ghost use Rattle.path_walk.specs.Walk.{Step, step_of, Walk, Begins, program};
 ghost use Rattle.path_walk.specs.Backing.{IsCellOf, IsAnswerOf, StepsAlone, CallsAlone};
@@ -34,14 +35,14 @@ pub trait Backends {
     ghost ran_on: { (a b c : Self) (s t : List Step) → ran a s b → ran b t c → ran a (s ++ t) c };
 }
 
-/// Performs a call: takes its steps on the backends, at most 256, and gives its reply.
+/// Performs a call: takes its steps on the backends, at most `PATH_NAMES_MAX`, and gives its reply.
 pub fn perform<B: Backends>(
     alloc: Global,
     call: Call,
     backends: &mut B,
 ) -> Result<Reply, AllocError>
     // The steps that were taken in this call, in order, are the call's, and the reply is theirs.
-    ensures walk { (steps : List Step) × B.ran backends.old steps backends.new × (length steps ≤ 256)
+    ensures walk { (steps : List Step) × B.ran backends.old steps backends.new × (length steps ≤ path_names_max)
         × MatchResult result (λ reply. Walk call steps reply) (λ _. Begins (program call) steps) }
 
     // Where nobody else changes the store, the reply and the store are those of the call at once.

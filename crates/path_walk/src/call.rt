@@ -13,9 +13,11 @@ pub enum Call {
 /// What a file call replies.
 #[derive(Clone, Copy, Debug, PartialEq, Eq)]
 pub enum Reply {
+    /// The directory was made.
     Done,
     /// The path names a directory.
     Dir,
+    /// The error of the call, which has changed nothing.
     Fault(Errno),
 }
 

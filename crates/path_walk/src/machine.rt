@@ -1,5 +1,6 @@
 ghost use Rattle.std.specs.Prelude.{◌≡◌, MatchResult, IfOk, OnErr, Ok, Err};
-ghost use Rattle.path_walk.specs.Paths.{path_fault, names_max};
+ghost use Rattle.path_walk.specs.Paths.{path_fault};
+ghost use Rattle.wf_core.specs.Limits.{path_names_max};
 ghost use Rattle.path_walk.specs.Walk.{program, way_of, made_reply};
 ghost use Rattle.path_walk.specs.Machine.{AsksRoot, Expects, Falls, Shows, resumed, steps_left};
 ghost use Rattle.path_walk.specs.declared.trail.Stage.{Stage};
@@ -13,13 +14,7 @@ use name_store::{NameAnswer, Node};
 use std::alloc::{AllocError, Global};
 use std::marker::Model;
 use std::mem;
-use wf_core::{Errno, PathText};
-
-/// The most bytes of a path.
-const PATH_MAX: usize = 4095;
-
-/// The most names that a path may take.
-const NAMES_MAX: u32 = 256;
+use wf_core::{Errno, PATH_MAX, PATH_NAMES_MAX, PathText};
 
 /// One call, step by step: it tells which step it needs, and goes on from the answer.
 #[derive(Drop)]
@@ -99,7 +94,7 @@ fn fault_of(path: &PathText) -> Option<Errno>
     if length == 0 {
         return Some(Errno::Enoent);
     }
-    if length > PATH_MAX {
+    if length >= PATH_MAX {
         return Some(Errno::Enametoolong);
     }
     None
@@ -107,14 +102,14 @@ fn fault_of(path: &PathText) -> Option<Errno>
 
 fn begin_stat(alloc: Global, path: &PathText) -> Result<Turn, AllocError>
     ensures shows { IfOk result (λ turn. Shows turn.need (program (Call.Stat path.now)) turn.stage) }
-    ensures falls { IfOk result (λ turn. Falls turn.need names_max turn.stage) }
+    ensures falls { IfOk result (λ turn. Falls turn.need path_names_max turn.stage) }
     ensures root { IfOk result (λ turn. AsksRoot turn.need) }
 {
     if let Some(errno) = fault_of(path) {
         return Ok(over(Reply::Fault(errno)));
     }
     let trail = Trail {
-        names: NAMES_MAX,
+        names: PATH_NAMES_MAX,
         rest: Parts::read(alloc, path)?,
         goal: Goal::Ask,
     };
@@ -123,7 +118,7 @@ fn begin_stat(alloc: Global, path: &PathText) -> Result<Turn, AllocError>
 
 fn begin_mkdir(alloc: Global, path: &PathText) -> Result<Turn, AllocError>
     ensures shows { IfOk result (λ turn. Shows turn.need (program (Call.Mkdir path.now)) turn.stage) }
-    ensures falls { IfOk result (λ turn. Falls turn.need names_max turn.stage) }
+    ensures falls { IfOk result (λ turn. Falls turn.need path_names_max turn.stage) }
     ensures root { IfOk result (λ turn. AsksRoot turn.need) }
 {
     if let Some(errno) = fault_of(path) {
@@ -132,7 +127,7 @@ fn begin_mkdir(alloc: Global, path: &PathText) -> Result<Turn, AllocError>
     let mut rest = Parts::read(alloc, path)?;
     let last = rest.take_last();
     let trail = Trail {
-        names: NAMES_MAX,
+        names: PATH_NAMES_MAX,
         rest,
         goal: Goal::Make(last),
     };

@@ -22,6 +22,7 @@ pub enum StoreAnswer {
 /// What a call is told of a step.
 #[derive(Debug, PartialEq, Eq, Drop)]
 pub enum StepAnswer {
+    /// The step was taken, and answered so.
     Answered(StoreAnswer),
     /// The worker of the cell's backend exited before it took the step.
     Cancelled,

@@ -1,16 +1,17 @@
--- What holds of a list, as what holds of its function from places.
-use Rattle.std.proofs.Common.{◌≡◌, ℕ, Bool, true, List, length, get_or, refl, arith}
-use Rattle.std.specs.List.{list_all}
-use Rattle.std.proofs.lemmas.Bool.Decides.{same_from_decides, Decides-by_and, Decides-below_and, Decides-like}
-use Rattle.std.proofs.lemmas.List.{get_or_default}
-use Rattle.proxy_model.specs.Maps.{all_below}
+-- What is counted in a list, as what is counted of its function from places.
+use Rattle.std.proofs.Common.{◌≡◌, ℕ, zero, suc, ◌+◌, ◌≤◌, Bool, cond, count_by, List, ◌∷◌, [], ◌++◌, length, get_or, take, add-one, refl, sym, ap, arith, ◌∙◌}
+use Rattle.std.proofs.lemmas.List.{take_more}
+use Rattle.std.proofs.lemmas.List.Sums.{sum_by_push}
+use Rattle.std.proofs.Math.Seq.{take-length}
+use Rattle.proxy_laws.specs.Maps.{bit, count_below}
 
--- all elements pass where the elements at all places do
-pub all-listed : {X : Type 0} (test : X → Bool) (xs : List X) (d : X) (n : ℕ) → length xs ≡ n → list_all test xs ≡ all_below n (λ k. test (get_or xs k d))
-all-listed {X} test xs d n len =
-    same_from_decides (list_all test xs) (all_below n (λ k. test (get_or xs k d)))
-    (Decides-like (list_all test xs)
-    (λ all k near. all k d (omega arith))
-    (λ below k e near. rw (get_or_default xs k e d near) (below k (omega arith)))
-    (Decides-by_and test (λ x. test x ≡ true) (list_all test) (λ x. (λ e. e, λ e. e)) refl (λ x ys. refl) xs))
-    (Decides-below_and (λ k. test (get_or xs k d)) (λ k. test (get_or xs k d) ≡ true) (λ m. all_below m (λ k. test (get_or xs k d))) (λ k. (λ e. e, λ e. e)) refl (λ m. refl) n)
+-- the first members
+count_by-take : {X : Type 0} (test : X → Bool) (xs : List X) (d : X) (m : ℕ) → m ≤ length xs → count_by test (take m xs) ≡ count_below m (λ k. test (get_or xs k d))
+count_by-take test xs d zero near = refl
+count_by-take {X} test xs d (suc m) near =
+    let more : take (suc m) xs ≡ take m xs ++ get_or xs m d ∷ [] = rw (← add-one m) (take_more xs m d (omega arith)) in
+    ap (count_by test) more ∙ (sum_by_push (λ (x : X). cond (test x) 1 0) (take m xs) (get_or xs m d) ∙ ap (λ (n : ℕ). n + bit (test (get_or xs m d))) (count_by-take test xs d m (omega arith)))
+
+pub count_by_places : {X : Type 0} (test : X → Bool) (xs : List X) (d : X) (n : ℕ) → length xs ≡ n → count_by test xs ≡ count_below n (λ k. test (get_or xs k d))
+count_by_places test xs d n len =
+    sym (ap (count_by test) (take-length xs)) ∙ (count_by-take test xs d (length xs) (omega arith) ∙ ap (λ (m : ℕ). count_below m (λ k. test (get_or xs k d))) len)

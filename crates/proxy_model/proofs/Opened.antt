@@ -1,26 +1,25 @@
 -- The lists of a new target's world show its opening, and are in range.
-use Rattle.std.proofs.Common.{◌≡◌, inl, inr, ℕ, ◌+◌, ◌<◌, ◌≤◌, ◌==◌, false, ◌&&◌, Option, None, List, [], length, count_by, get_or, set, refl, arith, ap, ◌∙◌}
+use Rattle.std.proofs.Common.{◌≡◌, inl, inr, ℕ, ◌+◌, ◌<◌, ◌≤◌, ◌==◌, Bool, false, ◌&&◌, Option, None, List, [], length, count_by, get_or, set, refl, arith, ap, ◌∙◌}
 use Rattle.std.specs.Prelude.{replicate, nat_lt, if◌then◌else◌}
 use Rattle.std.proofs.lemmas.Bool.{cases_lt, cases_eq, lt-ltb, le-ltb, ne_eqb}
 use Rattle.std.proofs.lemmas.List.{get_or-replicate, length-replicate, get_or_past, get_or-set_same, get_or-set_other}
 use Rattle.std.proofs.Math.ListN.{length-set}
-use Rattle.proxy_model.specs.declared.actors.Actor.{Actor}
-use Rattle.proxy_model.specs.declared.actors.Look.{Look}
-use Rattle.proxy_model.specs.declared.actors.Look.TheVariants as look
-use Rattle.proxy_model.specs.declared.actors.Note.{Note}
-use Rattle.proxy_model.specs.declared.actors.Note.TheVariants as note
-use Rattle.proxy_model.specs.declared.actors.OwnerState.TheVariants as owner
-use Rattle.proxy_model.specs.declared.actors.Phase.{Phase}
-use Rattle.proxy_model.specs.declared.actors.Phase.TheVariants as phase
-use Rattle.proxy_model.specs.declared.actors.Serving.{Serving}
-use Rattle.proxy_model.specs.declared.actors.Serving.TheVariants as serving
-use Rattle.proxy_model.specs.declared.records.Job.{Job}
-use Rattle.proxy_model.specs.declared.records.Mark.{Mark}
-use Rattle.proxy_model.specs.Lists.{is_by}
-use Rattle.proxy_model.specs.Mailbox.{Mailbox, times}
-use Rattle.proxy_model.specs.Phases.{names, looks_at}
-use Rattle.proxy_model.specs.Shapes.{PhasesInRange, LooksInRange, TurnsInRange, MailInRange, MarksInRange}
-use Rattle.proxy_model.specs.Worlds.{WorldState, opening_world}
+use Rattle.proxy_laws.specs.declared.actors.Actor.{Actor}
+use Rattle.proxy_laws.specs.declared.actors.Look.{Look}
+use Rattle.proxy_laws.specs.declared.actors.Look.TheVariants as look
+use Rattle.proxy_laws.specs.declared.actors.Note.{Note}
+use Rattle.proxy_laws.specs.declared.actors.Note.TheVariants as note
+use Rattle.proxy_laws.specs.declared.actors.OwnerState.TheVariants as owner
+use Rattle.proxy_laws.specs.declared.actors.Phase.{Phase}
+use Rattle.proxy_laws.specs.declared.actors.Phase.TheVariants as phase
+use Rattle.proxy_laws.specs.declared.actors.Serving.{Serving}
+use Rattle.proxy_laws.specs.declared.actors.Serving.TheVariants as serving
+use Rattle.proxy_laws.specs.declared.records.Job.{Job}
+use Rattle.proxy_laws.specs.declared.records.Mark.{Mark}
+use Rattle.proxy_laws.specs.Lists.{is_by}
+use Rattle.proxy_laws.specs.Phases.{names, looks_at}
+use Rattle.proxy_model.specs.Shapes.{PhasesInRange, LooksInRange, TurnsInRange, MarksInRange}
+use Rattle.proxy_laws.specs.Worlds.{WorldState, opening_world}
 
 -- all members of the list are x, and so is what lies past its end
 pub all_same : {X : Type 0} (n : ℕ) (x : X) (xs : List X) → xs ≡ replicate n x → (k : ℕ) → get_or xs k x ≡ x
@@ -65,13 +64,10 @@ looks_opened senders places looks e s p is = let no_place = ap (looks_at p) (all
 pub turns_opened : (senders places : ℕ) (turns : List (Option Actor)) → turns ≡ replicate places None → TurnsInRange senders turns
 turns_opened senders places turns e p s is = let free = all_same places None turns e p in cc
 
-pub mail_opened : (places : ℕ) (mail : Mailbox) → mail ≡ [] → MailInRange places mail
-mail_opened places mail e p some = let none = ap (times p) e in omega arith
-
 pub marks_opened : (senders places : ℕ) (sent : List (List Mark)) → sent ≡ replicate places [] → MarksInRange senders sent
 marks_opened senders places sent e p s some = let none = ap (count_by (is_by s)) (all_same places [] sent e p) in omega arith
 
-pub opened : (senders places : ℕ) (sent : List (List Mark)) (jobs : List (List Job)) (notes : List Note) (lives : List ℕ) (turns : List (Option Actor)) (at_places : List Serving) (mail : Mailbox) (phases : List Phase) (uses : List (List ℕ)) (looks : List Look) → 1 ≤ places → sent ≡ replicate places [] → jobs ≡ replicate places [] → notes ≡ replicate places note.None → lives ≡ set (replicate places 0) 0 (senders + 2) → turns ≡ replicate places None → at_places ≡ replicate places serving.Away → mail ≡ [] → phases ≡ replicate senders phase.Idle → uses ≡ replicate senders (first_use places) → looks ≡ replicate senders look.Nowhere → let w : WorldState = record { senders = senders; places = places; refs = 1; owner = owner.Open; sent = λ p. get_or sent p []; jobs = λ p. get_or jobs p []; note = λ p. get_or notes p note.None; life = λ p. get_or lives p 0; turn = λ p. get_or turns p None; serving = λ p. get_or at_places p serving.Away; mail = mail; mail_note = note.None; mail_turn = None; checking = false; seen_empty = false; got = 0; phase = λ s. get_or phases s phase.Idle; uses = λ s p. get_or (get_or uses s []) p 0; look = λ s. get_or looks s look.Nowhere } in w ≡ opening_world senders places
+pub opened : (senders places : ℕ) (sent : List (List Mark)) (jobs : List (List Job)) (notes : List Note) (lives : List ℕ) (turns : List (Option Actor)) (at_places : List Serving) (mail : List Bool) (phases : List Phase) (uses : List (List ℕ)) (looks : List Look) → 1 ≤ places → sent ≡ replicate places [] → jobs ≡ replicate places [] → notes ≡ replicate places note.None → lives ≡ set (replicate places 0) 0 (senders + 2) → turns ≡ replicate places None → at_places ≡ replicate places serving.Away → mail ≡ replicate places false → phases ≡ replicate senders phase.Idle → uses ≡ replicate senders (first_use places) → looks ≡ replicate senders look.Nowhere → let w : WorldState = record { senders = senders; places = places; refs = 1; owner = owner.Open; sent = λ p. get_or sent p []; jobs = λ p. get_or jobs p []; note = λ p. get_or notes p note.None; life = λ p. get_or lives p 0; turn = λ p. get_or turns p None; serving = λ p. get_or at_places p serving.Away; mail = λ p. get_or mail p false; mail_note = note.None; got = 0; phase = λ s. get_or phases s phase.Idle; uses = λ s p. get_or (get_or uses s []) p 0; look = λ s. get_or looks s look.Nowhere } in w ≡ opening_world senders places
 opened senders places sent jobs notes lives turns at_places mail phases uses looks some e_sent e_jobs e_notes e_lives e_turns e_serving e_mail e_phases e_uses e_looks = λ i. record {
   senders = senders;
   places = places;
@@ -83,11 +79,8 @@ opened senders places sent jobs notes lives turns at_places mail phases uses loo
   life = λ p. first_other places (senders + 2) lives some e_lives p i;
   turn = λ p. all_same places None turns e_turns p i;
   serving = λ p. all_same places serving.Away at_places e_serving p i;
-  mail = e_mail i;
+  mail = λ p. all_same places false mail e_mail p i;
   mail_note = note.None;
-  mail_turn = None;
-  checking = false;
-  seen_empty = false;
   got = 0;
   phase = λ s. all_same senders phase.Idle phases e_phases s i;
   uses = λ s p. uses_are senders places uses some e_uses s p i;

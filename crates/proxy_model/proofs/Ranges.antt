@@ -1,43 +1,31 @@
--- What a world keeps in range stays so where its lists grow or shrink.
-use Rattle.std.proofs.Common.{◌≡◌, ℕ, ◌+◌, ◌<◌, ◌≤◌, ◌==◌, true, false, Bool, cond, List, [], ◌∷◌, ◌++◌, length, drop, count_by, get_or, set, arith, ap, ◌∙◌, inl, inr, Result, Ok, Err, OnOk, OnErr}
+-- What a world names is in range, and stays so where a list of marks grows.
+use Rattle.std.proofs.Common.{◌≡◌, ℕ, ◌+◌, ◌<◌, ◌==◌, Bool, false, cond, List, [], ◌∷◌, ◌++◌, length, count_by, get_or, set, arith, ap, ◌∙◌, inl, inr, Result, Ok, Err, OnOk, OnErr}
+use Rattle.std.specs.Bool.{IsTrue}
 use Rattle.std.specs.Prelude.{if◌then◌else◌}
 use Rattle.std.proofs.lemmas.Bool.Decides.{nat_tests}
-use Rattle.std.proofs.lemmas.List.{get_or-set_same, get_or-set_other, get_or_default}
-use Rattle.std.proofs.lemmas.Bool.{cases_eq}
+use Rattle.std.proofs.lemmas.List.{get_or-set_same, get_or-set_other, get_or_default, get_or_past}
+use Rattle.std.proofs.lemmas.Bool.{cases_eq, cases_lt}
 use Rattle.std.specs.declared.alloc.AllocError.{AllocError}
-use Rattle.std.proofs.lemmas.List.Sums.{sum_by-append, sum_by_push}
-use Rattle.proxy_model.specs.declared.records.Mark.{Mark}
-use Rattle.proxy_model.specs.Lists.{is_by}
-use Rattle.proxy_model.specs.Mailbox.{Mailbox, times}
-use Rattle.proxy_model.specs.Shapes.{MarksInRange, MailInRange}
+use Rattle.std.proofs.lemmas.List.Sums.{sum_by_push}
+use Rattle.proxy_laws.specs.declared.records.Mark.{Mark}
+use Rattle.proxy_laws.specs.Lists.{is_by}
+use Rattle.proxy_model.specs.Shapes.{MarksInRange}
 
--- a notice at the end
-pub times-push : (p q : ℕ) (mail : Mailbox) → times p (mail ++ q ∷ []) ≡ times p mail + (if q == p then 1 else 0)
-times-push p q mail = sum_by_push (λ k. cond (k == p) 1 0) mail q
-
--- and at the front
-pub times-cons : (p q : ℕ) (mail : Mailbox) → times p (q ∷ mail) ≡ times p mail + (if q == p then 1 else 0)
-times-cons p q mail = omega (arith, sum_by-append (λ k. cond (k == p) 1 0) (q ∷ []) mail)
-
-pub times-drop : (p : ℕ) (mail : Mailbox) → times p (drop 1 mail) ≤ times p mail
-times-drop p [] = omega arith
-times-drop p (q ∷ mail) = omega (arith, sum_by-append (λ k. cond (k == p) 1 0) (q ∷ []) mail)
-
-pub near_pushed : (places q p times_old times_new : ℕ) → times_new ≡ times_old + (if q == p then 1 else 0) → q < places → (0 < times_old → p < places) → 0 < times_new → p < places
-near_pushed places q p times_old times_new e near old some = grind (arith, nat_tests)
-
-pub mail_pushed : (places q : ℕ) (mail new : Mailbox) (done : Bool) → new ≡ cond done (mail ++ q ∷ []) mail → q < places → MailInRange places mail → MailInRange places new
-mail_pushed places q mail new true e near old p some = near_pushed places q p (times p mail) (times p new) (ap (times p) e ∙ times-push p q mail) near (old p) some
-mail_pushed places q mail new false e near old p some = old p (rw (← e) some)
+-- a place past the end of the mailbox has no notice
+pub mail_in_range : (places p : ℕ) (mail : List Bool) → length mail ≡ places → IsTrue (get_or mail p false) → p < places
+mail_in_range places p mail len is = elim (cases_lt p places) [
+  | inl near ↦ near
+  | inr far ↦ let past = get_or_past mail p false (omega arith) in absurd (cc)
+]
 
 -- one place's list is replaced by one whose marks are of senders that are there
-pub marks_replaced : (senders p : ℕ) (sent : List (List Mark)) (new : List Mark) → p < length sent → ((s : ℕ) → 0 < count_by (is_by s) new → s < senders) → MarksInRange senders sent → MarksInRange senders (set sent p new)
+marks_replaced : (senders p : ℕ) (sent : List (List Mark)) (new : List Mark) → p < length sent → ((s : ℕ) → 0 < count_by (is_by s) new → s < senders) → MarksInRange senders sent → MarksInRange senders (set sent p new)
 marks_replaced senders p sent new near ok was q s some = elim (cases_eq q p) [
   | inl same ↦ ok s (rw (← get_or-set_same sent p new [] near) (rw same at some))
   | inr other ↦ was q s (rw (← get_or-set_other sent p q new [] other) some)
 ]
 
-pub near_added : (senders s t old new : ℕ) → new ≡ old + (if t == s then 1 else 0) → t < senders → (0 < old → s < senders) → 0 < new → s < senders
+near_added : (senders s t old new : ℕ) → new ≡ old + (if t == s then 1 else 0) → t < senders → (0 < old → s < senders) → 0 < new → s < senders
 near_added senders s t old new e near was some = grind (arith, nat_tests)
 
 -- a mark at the end of a place's list, or the list as it was
@@ -51,6 +39,3 @@ marks_pushed senders p sent mark old new (Err u) h e read near there was =
     marks_replaced senders p sent new near
     (λ s some. was p s (rw (← get_or_default sent p old [] near, ← read, ← e) some))
     was
-
-pub mail_dropped : (places : ℕ) (mail new : Mailbox) → new ≡ drop 1 mail → MailInRange places mail → MailInRange places new
-mail_dropped places mail new e old p some = old p (omega (arith, times-drop p mail, ap (times p) e))

@@ -1,16 +1,5 @@
-pub mod Events
-pub mod Fates
-pub mod Laws
-pub mod Lists
-pub mod Mailbox
-pub mod Maps
 pub mod Parts
-pub mod Phases
-pub mod Promises
 pub mod Refusals
 pub mod Runs
 pub mod Shapes
 pub mod Shown
-pub mod Sound
-pub mod Starts
-pub mod Worlds

@@ -1,11 +1,11 @@
 -- The world that a `World` shows.
-use Rattle.std.specs.Prelude.{[], slice_index_or, None}
-use Rattle.proxy_model.specs.declared.actors.Look.TheVariants as look
-use Rattle.proxy_model.specs.declared.actors.Note.TheVariants as note
-use Rattle.proxy_model.specs.declared.actors.Phase.TheVariants as phase
-use Rattle.proxy_model.specs.declared.actors.Serving.TheVariants as serving
+use Rattle.std.specs.Prelude.{[], slice_index_or, None, false}
+use Rattle.proxy_laws.specs.declared.actors.Look.TheVariants as look
+use Rattle.proxy_laws.specs.declared.actors.Note.TheVariants as note
+use Rattle.proxy_laws.specs.declared.actors.Phase.TheVariants as phase
+use Rattle.proxy_laws.specs.declared.actors.Serving.TheVariants as serving
+use Rattle.proxy_laws.specs.Worlds.{WorldState}
 use Rattle.proxy_model.specs.declared.worlds.World.{World}
-use Rattle.proxy_model.specs.Worlds.{WorldState}
 
 -- what a world's lists say of each place and of each sender
 abbrev pub world_of : World → WorldState
@@ -20,11 +20,8 @@ world_of w = record {
   life = λ p. slice_index_or w.lives.items p 0;
   turn = λ p. slice_index_or w.turns.items p None;
   serving = λ p. slice_index_or w.serving.items p serving.Away;
-  mail = w.mail.items;
+  mail = λ p. slice_index_or w.mail.items p false;
   mail_note = w.mail_note;
-  mail_turn = w.mail_turn;
-  checking = w.checking;
-  seen_empty = w.seen_empty;
   got = w.got;
   phase = λ s. slice_index_or w.phases.items s phase.Idle;
   uses = λ s p. slice_index_or (slice_index_or w.uses.items s []) p 0;

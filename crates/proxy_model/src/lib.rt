@@ -1,35 +1,22 @@
-//! The world of one proxying target: its state, its events and its invariant.
+//! The world of one proxying target: its state, its step and its invariant. The definitions of worlds
+//! and events, and their laws, are `proxy_laws`'s, whose types are offered here again.
 #![tactic(auto)]
 
-mod access;
 mod actors;
-mod checks;
-mod conditions;
-mod counts;
 mod events;
-mod job_checks;
 mod laws;
-mod life_checks;
-mod lives;
-mod opening;
 mod order;
-mod owning;
-mod records;
-mod rows;
+mod refusals;
 mod runs;
-mod sending;
+mod sound;
 mod steps;
-#[cfg(test)]
-mod tests;
 mod worlds;
 
-pub use actors::{Actor, Look, Note, OwnerState, Phase, Serving};
-pub use events::{Event, StepRefusal, Why};
-pub use laws::{
-    closing_keeps, jobs_are_kept, lives_keep, no_sender_after_close, nothing_is_lost,
-    notices_find_room, notifying_keeps, opening_is_sound, places_come_free, records_are_lawful,
-    references_keep, runs_keep_sound, serving_keeps, world_is_well_formed, worlds_are_well_formed,
+pub use laws::{steps_lead, world_is_well_formed};
+pub use proxy_laws::{
+    Actor, Event, FateMark, Job, JobRecord, Look, Mark, Note, OwnerState, Phase, PlaceRecord,
+    PostRecord, Serving, Started,
 };
-pub use records::{FateMark, Job, JobRecord, Mark, PlaceRecord, PostRecord, Started};
+pub use refusals::{StepRefusal, Why};
 pub use runs::run;
 pub use worlds::World;

@@ -1,14 +1,15 @@
 //! Whether marks and jobs stand in order.
 
-ghost use Rattle.std.specs.Prelude.{◌≡◌, ℕ, ◌<◌, ◌↔◌, IsTrue, count_by, take, map, length, slice_index_or};
-ghost use Rattle.proxy_model.specs.Lists.{is_by};
-ghost use Rattle.proxy_model.specs.Starts.{AreInOrder, AreNumbered, MayFollow};
-ghost use Rattle.proxy_model.specs.declared.records.Job.{Job};
+ghost use Rattle.std.specs.Prelude.{◌≡◌, ℕ, ◌<◌, ◌↔◌, IsTrue, count_by, length, slice_index_or};
+ghost use Rattle.proxy_laws.specs.declared.records.Job.{Job};
+ghost use Rattle.proxy_laws.specs.Lists.{is_by};
+ghost use Rattle.proxy_laws.specs.Starts.{AreInOrder, AreNumbered, MayFollow};
 
-use crate::records::{Job, Mark};
+use crate::actors::may_follow;
+use proxy_laws::{Job, Mark};
 
 /// How many of the marks are the sender's.
-fn count_of(marks: &[Mark], sender: u32) -> usize
+pub(crate) fn count_of(marks: &[Mark], sender: u32) -> usize
     ensures { result ≡ count_by (is_by sender) marks.now }
 {
     marks.iter().filter(|mark| mark.sender == sender).count()
@@ -32,7 +33,7 @@ fn follows_all(jobs: &[Job], index: usize) -> bool
     ensures { IsTrue result ↔ ((n : ℕ) (d : Job) → n < index → MayFollow (slice_index_or jobs.now n d).started (slice_index_or jobs.now index d).started) }
 {
     for earlier in 0..index {
-        if !jobs[index].started.may_follow(jobs[earlier].started) {
+        if !may_follow(jobs[earlier].started, jobs[index].started) {
             return false;
         }
     }
@@ -43,10 +44,5 @@ fn follows_all(jobs: &[Job], index: usize) -> bool
 pub(crate) fn are_in_order(jobs: &[Job]) -> bool
     ensures { IsTrue result ↔ AreInOrder (λ job. job.started) jobs.now }
 {
-    for index in 0..jobs.len() {
-        if !follows_all(jobs, index) {
-            return false;
-        }
-    }
-    true
+    (0..jobs.len()).all(|index| follows_all(jobs, index))
 }

@@ -1,1 +1,1 @@
-pub mod DueLemmas
+pub mod RunLemmas

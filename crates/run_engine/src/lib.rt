@@ -6,5 +6,3 @@ pub use commands::solo;
 mod commands;
 mod root_store;
 mod solo_run;
-#[cfg(test)]
-mod tests;

@@ -8,6 +8,10 @@ pub record RingView (T : Type 0) : Type 0 where
   pub cells : ℕ
   pub first : ℕ
 
+-- the most cells that the first `reserve` makes
+abbrev pub first_max : ℕ
+first_max = 65536
+
 -- a view is stored as the tuple of its fields
 abbrev pub ring_code : {T : Type 0} → Coded T → Coded (RingView T)
 ring_code {T} code =

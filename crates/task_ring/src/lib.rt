@@ -2,11 +2,8 @@
 #![tactic(auto)]
 
 ghost use Rattle.std.specs.Prelude.{◌≡◌, ◌+◌, ◌-◌, ◌*◌, ◌<◌, ◌≤◌, ◌↔◌, [], ◌∷◌, ◌++◌, length, slice_get, drop, IsOk, IsNone, OnOk, OnErr, OnSome};
-ghost use Rattle.task_ring.specs.Ring.{spare};
+ghost use Rattle.task_ring.specs.Ring.{first_max, spare};
 ghost use Rattle.task_ring.specs.Cells.{around, items_in};
-
-#[cfg(test)]
-mod tests;
 
 use std::alloc::{AllocError, Global};
 use std::marker::Model;
@@ -18,11 +15,11 @@ use std::mem;
 /// The ring itself cannot be dropped either: it ends by `close`.
 pub struct Ring<T> {
     cells: Vec<Option<T>>,
-    // The cell of the first item.
+    /// The cell of the first item.
     head: usize,
-    // The cell after the last item, which is the head exactly where the ring is empty.
+    /// The cell after the last item, which is the head exactly where the ring is empty.
     tail: usize,
-    // How many cells the first `reserve` makes.
+    /// How many cells the first `reserve` makes.
     first: usize,
 }
 
@@ -50,7 +47,7 @@ impl<T> Ring<T> {
     /// EM_TASK_QUEUE_INITIAL_CAPACITY is 128.
     pub fn new(alloc: Global, first: usize) -> Ring<T>
         requires least { 2 ≤ first }
-        requires most { first ≤ 65536 }
+        requires most { first ≤ first_max }
         ensures { result ≡ record { items = []; cells = 0; first = first } }
     {
         Ring {
@@ -100,7 +97,7 @@ impl<T> Ring<T> {
         self.grow(count)
     }
 
-    // Moves the items to a row of `count` cells, the first item to its start, as em_task_queue_grow does.
+    /// Moves the items to a row of `count` cells, the first item to its start, as em_task_queue_grow does.
     fn grow(&mut self, count: usize) -> Result<(), AllocError>
         requires { length self.old.items < count }
         ensures ok { OnOk result (self.new ≡ record self.old { cells = count }) }
@@ -161,7 +158,7 @@ impl<T> Ring<T> {
     }
 }
 
-// The cell after this one, around the end.
+/// The cell after this one, around the end.
 fn after(index: usize, count: usize) -> usize
     requires { index < count }
     ensures { result ≡ around count (index + 1) }
@@ -169,7 +166,7 @@ fn after(index: usize, count: usize) -> usize
     if index + 1 == count { 0 } else { index + 1 }
 }
 
-// Frees cells that hold no item.
+/// Frees cells that hold no item.
 fn free_empty<T>(mut cells: Vec<Option<T>>)
     requires { items_in cells.items ≡ [] }
 {

@@ -10,7 +10,8 @@ use Rattle.trace_text.specs.declared.trace.CallWord.TheVariants.{Mkdir as MkdirW
 use Rattle.trace_text.specs.declared.refusal.TraceRefusal.{TraceRefusal}
 use Rattle.trace_text.specs.declared.refusal.TraceRefusal.TheVariants.{UnknownWord}
 use Rattle.trace_text.specs.Traces.{Traced}
-use Rattle.trace_text.specs.Fields.{is_text, pieces_of, fields_of, header, is_label, is_path}
+use Rattle.wf_core.specs.Names.{is_text}
+use Rattle.trace_text.specs.Fields.{pieces_of, fields_of, header, is_label, is_path}
 use Rattle.trace_text.specs.Grammar.{◌>>=◌, named, thread_of, worded, call_of, calls_at, threaded, trace_at}
 use Rattle.trace_text.specs.Spelling.{call_text, path_in, call_line, AreCalls, IsBody, Reads}
 use Rattle.trace_text.proofs.Bytes.{lacks, lacks_joined, one_piece, first_piece}

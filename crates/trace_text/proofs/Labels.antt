@@ -3,7 +3,7 @@ use Rattle.std.proofs.Common.{◌≡◌, ◌≢◌, ℕ, Bool, true, false, List
 use Rattle.std.proofs.lemmas.Bool.Decides.{same_from_decides}
 use Rattle.std.proofs.lemmas.List.{append_cancel_right}
 use Rattle.std.proofs.lemmas.Slice.Eq.{bytes_eq-Decides}
-use Rattle.trace_text.specs.Fields.{is_text}
+use Rattle.wf_core.specs.Names.{is_text}
 
 -- what stands before the `:` is compared with the name
 pub label_with_colon : (label front name : List ℕ) → label ≡ front ++ codes ":" → is_text front name ≡ is_text label (name ++ codes ":")

@@ -13,7 +13,8 @@ use Rattle.trace_text.specs.declared.trace.CallWord.TheVariants.{Mkdir as MkdirW
 use Rattle.trace_text.specs.declared.refusal.TraceRefusal.{TraceRefusal}
 use Rattle.trace_text.specs.declared.refusal.TraceRefusal.TheVariants.{Header, UnknownWord}
 use Rattle.trace_text.specs.Traces.{Traced}
-use Rattle.trace_text.specs.Fields.{is_text, pieces_of, lines_of, rest_of, fields_of, header, is_label, is_path}
+use Rattle.wf_core.specs.Names.{is_text}
+use Rattle.trace_text.specs.Fields.{pieces_of, lines_of, rest_of, fields_of, header, is_label, is_path}
 use Rattle.trace_text.specs.Grammar.{◌>>=◌, field_is, name_in, named, thread_of, word_of, path_in as path_at, call_with, worded, call_of, calls_at, threaded, headed, trace_at}
 use Rattle.trace_text.specs.Spelling.{call_text, path_in, call_line, AreCalls, IsBody, Reads}
 use Rattle.trace_text.proofs.Lines.{call_in, line_text, spaced, thread_in}

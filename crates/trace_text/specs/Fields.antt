@@ -1,10 +1,6 @@
 -- The lines of a text, the fields of a line, and how fields are spelled. The format is this project's own.
 use Rattle.std.specs.Prelude.{ℕ, ◌==◌, ◌-◌, ◌&&◌, ◌||◌, not, nat_le, Bool, List, [], length, take, unwrap_or, slice_get, codes}
 use Rattle.std.specs.List.{list_all, slice_split}
-use Rattle.std.specs.Cmp.Lexicographic.{pointwise}
-
-abbrev pub is_text : List ℕ → List ℕ → Bool
-is_text = pointwise (λ a b. a == b)
 
 -- what stands between bytes 10, before the first and after the last of them too
 abbrev pub pieces_of : List ℕ → List (List ℕ)

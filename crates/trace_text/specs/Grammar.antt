@@ -9,7 +9,8 @@ use Rattle.trace_text.specs.declared.trace.CallWord.TheVariants.{Mkdir as MkdirW
 use Rattle.trace_text.specs.declared.refusal.TraceRefusal.{TraceRefusal}
 use Rattle.trace_text.specs.declared.refusal.TraceRefusal.TheVariants.{Header, UnknownWord, BadArgument}
 use Rattle.trace_text.specs.Traces.{Traced}
-use Rattle.trace_text.specs.Fields.{is_text, lines_of, rest_of, fields_of, header, is_label, is_path}
+use Rattle.wf_core.specs.Names.{is_text}
+use Rattle.trace_text.specs.Fields.{lines_of, rest_of, fields_of, header, is_label, is_path}
 
 -- a field is there and is that text
 abbrev pub field_is : List ℕ → Option (List ℕ) → Bool

@@ -12,6 +12,4 @@ mod law;
 mod print;
 mod read;
 mod refusal;
-#[cfg(test)]
-mod tests;
 mod trace;

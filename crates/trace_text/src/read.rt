@@ -1,6 +1,7 @@
 ghost use Rattle.std.specs.Prelude.{◌≡◌, ◌+◌, ◌++◌, ◌<◌, ◌^◌, [], true, map, codes, slice_get, IfOk, IfSome};
 ghost use Rattle.std.specs.Option.{option_copied};
-ghost use Rattle.trace_text.specs.Fields.{fields_of, header, is_path, is_text, pieces_of};
+ghost use Rattle.wf_core.specs.Names.{is_text};
+ghost use Rattle.trace_text.specs.Fields.{fields_of, header, is_path, pieces_of};
 ghost use Rattle.trace_text.specs.Grammar.{call_of, call_with, calls_at, field_is, headed, name_in, path_in, thread_of, threaded, trace_at, word_of};
 ghost use Rattle.trace_text.specs.Reading.{Gives};
 ghost use Rattle.trace_text.specs.Traces.{traced};

@@ -1,9 +1,13 @@
-//! What every other crate stands on: names, paths, error words, the statuses of a run, and the traits
-//! by which a run reads, writes and waits for its gate.
+//! What every other crate stands on: names, paths, error words, the limits, the statuses of a run, and the
+//! traits by which a run reads, writes and waits for its gate.
 #![tactic(auto)]
 
 pub use errno::Errno;
 pub use gate::{Gate, OpenGate};
+pub use limits::{
+    FILE_MAX, GROUP_COUNT, GROUP_MAX, INPUT_MAX, LIST_MAX, NAME_MAX, OFFSET_MAX, OPEN_MAX,
+    PAGE_SIZE, PATH_MAX, PATH_NAMES_MAX, READ_MAX,
+};
 pub use name::{Name, NameRefusal};
 pub use path_text::{PathRefusal, PathText};
 pub use run_status::RunStatus;
@@ -13,6 +17,7 @@ pub use text::Text;
 
 mod errno;
 mod gate;
+mod limits;
 mod name;
 mod path_text;
 mod run_status;

@@ -3,16 +3,15 @@ ghost use Rattle.std.specs.Ordering.{nat_cmp};
 ghost use Rattle.std.specs.Cmp.{partial_equiv_from_equiv};
 ghost use Rattle.std.specs.Cmp.Lexicographic.{pointwise, slice_cmp, nat_list_cmp_total, nat_list_eq_equiv, texts_ties, texts_po};
 ghost use Rattle.std.specs.List.{list_all};
+ghost use Rattle.wf_core.specs.Limits.{name_max};
 ghost use Rattle.wf_core.specs.Names.{is_name, is_filename, is_name_byte};
 
+use crate::limits::NAME_MAX;
 use std::alloc::{AllocError, Global};
 use std::cmp::Ordering;
 use std::marker::Model;
 
-/// The longest name, in bytes.
-const NAME_MAX: usize = 255;
-
-/// The name of a directory entry: 1 to 255 bytes without `/` and byte 0, neither `.` nor `..`
+/// The name of a directory entry: 1 to `NAME_MAX` bytes without `/` and byte 0, neither `.` nor `..`
 /// (POSIX.1-2017, XBD 3.170). Names are ordered by their bytes.
 #[derive(Debug, Drop)]
 pub struct Name {
@@ -30,7 +29,7 @@ impl Model for Name {
 /// Why bytes are no name.
 #[derive(Debug, Drop, thiserror::Error)]
 pub enum NameRefusal {
-    /// More than 255 bytes.
+    /// More than `NAME_MAX` bytes.
     #[error("a name has more than 255 bytes")]
     TooLong,
     /// Empty, `.`, `..`, or with a slash or byte 0.
@@ -60,8 +59,9 @@ impl Name {
     pub fn read(alloc: Global, bytes: &[u8]) -> Result<Name, NameRefusal>
         ensures ok { IfOk result (λ name. name ≡ bytes.now) }
         ensures is_name { IfOk result (λ name. is_name name ≡ true) }
-        ensures too_long { IsErrOf result NameRefusal.TooLong ↔ (255 < length bytes.now) }
-        ensures not_a_name { IsErrOf result NameRefusal.NotAName ↔ ((length bytes.now ≤ 255) × (is_filename bytes.now ≡ false)) }
+        ensures too_long { IsErrOf result NameRefusal.TooLong ↔ (name_max < length bytes.now) }
+        ensures not_a_name { IsErrOf result NameRefusal.NotAName
+            ↔ ((length bytes.now ≤ name_max) × (is_filename bytes.now ≡ false)) }
     {
         if bytes.len() > NAME_MAX {
             return Err(NameRefusal::TooLong);
@@ -75,6 +75,7 @@ impl Name {
         }
     }
 
+    /// The bytes of the name.
     pub fn as_bytes(&self) -> &[u8]
         ensures value { result.now ≡ self.now }
         ensures is_name { is_name self.now ≡ true }

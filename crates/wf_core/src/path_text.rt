@@ -51,6 +51,7 @@ impl PathText {
         }
     }
 
+    /// The bytes of the text.
     pub fn as_bytes(&self) -> &[u8]
         ensures value { result.now ≡ self.now }
         ensures no_nul { has_no_nul self.now ≡ true }

@@ -41,9 +41,17 @@ pub struct MemSink {
 impl Model for MemSink {
     ghost Value = { Writing };
 
-    ghost view = { λ s. record { written = s.bytes.items; room = s.room; piece = s.piece; failing = s.failing.items; writes = s.writes; faults = s.faults } };
+    ghost view = { λ s. record {
+      written = s.bytes.items;
+      room = s.room;
+      piece = s.piece;
+      failing = s.failing.items;
+      writes = s.writes;
+      faults = s.faults;
+    } };
 
-    ghost invariant = { λ s. (vec_len s.bytes ≤ s.room) × (s.room ≤ vec_capacity s.bytes) × (0 < s.piece) };
+    ghost invariant = { λ s. (vec_len s.bytes ≤ s.room) × (s.room ≤ vec_capacity s.bytes)
+        × (0 < s.piece) };
 }
 
 impl MemSink {
@@ -56,7 +64,14 @@ impl MemSink {
         failing: Vec<u64>,
     ) -> Result<MemSink, AllocError>
         requires { 0 < piece }
-        ensures { IfOk result (λ sink. sink ≡ record { written = []; room = room; piece = piece; failing = failing.items; writes = 0; faults = 0 }) }
+        ensures { IfOk result (λ sink. sink ≡ record {
+          written = [];
+          room = room;
+          piece = piece;
+          failing = failing.items;
+          writes = 0;
+          faults = 0;
+        }) }
     {
         Ok(MemSink {
             bytes: Vec::with_capacity(alloc, room)?,
@@ -84,15 +99,19 @@ impl Sink for MemSink {
     fn write(&mut self, bytes: &[u8]) -> Result<usize, Failed>
         ensures within { IfOk result (λ count. count ≤ length bytes.now) }
         ensures some { IfOk result (λ count. 0 < length bytes.now → 0 < count) }
-        ensures appends { WriteAppends (Some self.old.written) (Some self.new.written) result bytes.now }
+        ensures appends { WriteAppends (Some self.old.written)
+            (Some self.new.written) result bytes.now }
         ensures later { self.old.faults ≤ self.new.faults }
         ensures failed { OnErr result (Rose self.old.faults self.new.faults) }
 
         // Which writes fail, and how much the others take.
-        ensures exact { IsErr result ↔ (Contains self.old.failing self.old.writes ⊎ ((0 < length bytes.now) × (self.old.room ≤ length self.old.written))) }
-        ensures count { IfOk result (λ count. count ≡ min (length bytes.now) (min self.old.piece (self.old.room - length self.old.written))) }
+        ensures exact { IsErr result ↔ (Contains self.old.failing self.old.writes
+            ⊎ ((0 < length bytes.now) × (self.old.room ≤ length self.old.written))) }
+        ensures count { IfOk result (λ count. count ≡ min (length bytes.now)
+            (min self.old.piece (self.old.room - length self.old.written))) }
         ensures number { self.new.writes ≡ min (self.old.writes + 1) (2 ^ 64 - 1) }
-        ensures same { (self.new.room ≡ self.old.room) × (self.new.piece ≡ self.old.piece) × (self.new.failing ≡ self.old.failing) }
+        ensures same { (self.new.room ≡ self.old.room) × (self.new.piece ≡ self.old.piece)
+            × (self.new.failing ≡ self.old.failing) }
     {
         let number = self.writes;
         self.writes = number.saturating_add(1);
@@ -115,6 +134,7 @@ pub struct StdSink {
 }
 
 impl StdSink {
+    /// The sink of standard output, of which no write has failed yet.
     pub fn new(output: Stdout) -> StdSink {
         StdSink { output, faults: 0 }
     }

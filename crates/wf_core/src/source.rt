@@ -48,7 +48,14 @@ pub struct MemSource {
 impl Model for MemSource {
     ghost Value = { Reading };
 
-    ghost view = { λ s. record { left = drop s.at s.bytes.items; given = s.at; piece = s.piece; failing = s.failing.items; reads = s.reads; faults = s.faults } };
+    ghost view = { λ s. record {
+      left = drop s.at s.bytes.items;
+      given = s.at;
+      piece = s.piece;
+      failing = s.failing.items;
+      reads = s.reads;
+      faults = s.faults;
+    } };
 
     ghost invariant = { λ s. (s.at ≤ vec_len s.bytes) × (0 < s.piece) };
 }
@@ -58,7 +65,14 @@ impl MemSource {
     /// are in `failing`.
     pub fn new(bytes: Vec<u8>, piece: usize, failing: Vec<u64>) -> MemSource
         requires { 0 < piece }
-        ensures { result ≡ record { left = bytes.items; given = 0; piece = piece; failing = failing.items; reads = 0; faults = 0 } }
+        ensures { result ≡ record {
+          left = bytes.items;
+          given = 0;
+          piece = piece;
+          failing = failing.items;
+          reads = 0;
+          faults = 0;
+        } }
     {
         MemSource {
             bytes,
@@ -88,7 +102,8 @@ impl Source for MemSource {
 
         // Which reads fail, and how much the others give.
         ensures exact { IsErr result ↔ Contains self.old.failing self.old.reads }
-        ensures count { IfOk result (λ count. count ≡ min (length buf.new) (min self.old.piece (length self.old.left))) }
+        ensures count { IfOk result
+            (λ count. count ≡ min (length buf.new) (min self.old.piece (length self.old.left))) }
         ensures number { self.new.reads ≡ min (self.old.reads + 1) (2 ^ 64 - 1) }
         ensures same { (self.new.piece ≡ self.old.piece) × (self.new.failing ≡ self.old.failing) }
     {
@@ -116,6 +131,7 @@ pub struct StdSource {
 }
 
 impl StdSource {
+    /// The source of standard input, which has given nothing yet.
     pub fn new(input: Stdin) -> StdSource {
         StdSource {
             input,
@@ -169,13 +185,17 @@ impl From<AllocError> for InputFault {
 
 /// Reads all bytes up to the end, at most `limit`. It stops after one byte more.
 pub fn read_input<S: Source>(alloc: Global, src: &mut S, limit: u64) -> Result<Vec<u8>, InputFault>
-    requires { limit ≤ 67108864 }
-    ensures whole { IfOk result (λ input. Consumes (S.left src.old) (S.left src.new) input.items × IsAtEnd (S.left src.new)) }
+    requires { limit < 2 ^ 63 }
+    ensures whole { IfOk result
+        (λ input. Consumes (S.left src.old) (S.left src.new) input.items
+        × IsAtEnd (S.left src.new)) }
     ensures given { IfOk result (λ input. S.given src.new ≡ S.given src.old + vec_len input) }
     ensures short { IfOk result (λ input. vec_len input ≤ limit) }
     ensures later { S.faults src.old ≤ S.faults src.new }
-    ensures fault { IsErrOf result InputFault.ReadFault → Rose (S.faults src.old) (S.faults src.new) }
-    ensures too_long { IsErrOf result InputFault.TooLong ↔ (S.given src.old + limit < S.given src.new) }
+    ensures fault { IsErrOf result InputFault.ReadFault
+        → Rose (S.faults src.old) (S.faults src.new) }
+    ensures too_long { IsErrOf result InputFault.TooLong
+        ↔ (S.given src.old + limit < S.given src.new) }
 {
     let mut input = Vec::new(alloc);
     let mut piece = [0; PIECE];

@@ -32,6 +32,7 @@ impl Text {
         })
     }
 
+    /// The bytes.
     pub fn as_bytes(&self) -> &[u8]
         ensures { result.now ≡ self.now }
     {

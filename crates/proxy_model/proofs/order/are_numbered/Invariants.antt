@@ -1,6 +1,6 @@
 use Rattle.std.proofs.Common.{◌≡◌, ℕ, ◌<◌, get_or, count_by, take}
-use Rattle.proxy_model.specs.declared.records.Mark.{Mark}
-use Rattle.proxy_model.specs.Lists.{is_by}
+use Rattle.proxy_laws.specs.declared.records.Mark.{Mark}
+use Rattle.proxy_laws.specs.Lists.{is_by}
 use Rattle.proxy_model.proofs.order.are_numbered.Given as goal
 
 abbrev pub invariant-loop-index : goal.invariant-loop-index

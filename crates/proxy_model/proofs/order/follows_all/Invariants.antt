@@ -1,6 +1,6 @@
 use Rattle.std.proofs.Common.{ℕ, ◌<◌, get_or}
-use Rattle.proxy_model.specs.declared.records.Job.{Job}
-use Rattle.proxy_model.specs.Starts.{MayFollow}
+use Rattle.proxy_laws.specs.declared.records.Job.{Job}
+use Rattle.proxy_laws.specs.Starts.{MayFollow}
 use Rattle.proxy_model.proofs.order.follows_all.Given as goal
 
 abbrev pub invariant-loop-earlier : goal.invariant-loop-earlier

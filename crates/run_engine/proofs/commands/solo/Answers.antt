@@ -1,24 +1,38 @@
-use Rattle.std.proofs.Common.{◌≡◌, ◌≢◌, sym, ap, ◌∙◌}
+use Rattle.std.proofs.Common.{rules, ◌≡◌, List, ℕ, sym, ap, ◌∙◌}
+use Rattle.std.specs.Io.KnownBytes.{IsAtEnd}
 use Rattle.wf_core.specs.declared.run_status.RunStatus.TheVariants.{Done, Refused, WriteFault}
 use Rattle.trace_text.specs.Grammar.{trace_at}
-use Rattle.run_engine.specs.Solo.{due_status, due_text}
-use Rattle.run_engine.proofs.DueLemmas.{solo_done, solo_refused}
+use Rattle.trace_text.specs.SoloText.{IsSoloText}
+use Rattle.run_engine.specs.Runs.{IsDueText, IsRefusalText, Writes, status_due}
+use Rattle.run_engine.proofs.RunLemmas.{at_input, trace_due, refusal_due}
 use Rattle.run_engine.proofs.commands.solo.Goals as goal
 
-pub returns-in-Ok-due_for-clause-done : goal.returns-in-Ok-due_for-clause-done
-returns-in-Ok-due_for-clause-done g c = λ done.
-    let no_fault : c.finish-in-Ok-due_for.result ≢ WriteFault = λ fault. (let clash : Done ≡ WriteFault = sym done ∙ fault in cc) in
-    let whole = c.finish-in-Ok-due_for.ensures.whole no_fault in
-    solo_done _ _ _ _ c.in-Ok.input.items c.as_slice-in-Ok-due_for.result.now c.in-Ok.ensures.whole.0 c.in-Ok.ensures.whole.1
-    (sym (ap (λ bytes. due_status (trace_at bytes)) c.as_slice.ensures.value) ∙ sym c.in-Ok-due_for.ensures.status ∙ sym whole.0 ∙ done)
-    (c.as_slice-in-Ok-due_for.ensures.value ∙ c.in-Ok-due_for.ensures.text ∙ ap (λ bytes. due_text (trace_at bytes)) c.as_slice.ensures.value)
-    whole.1
-
-pub returns-in-Ok-due_for-clause-refused : goal.returns-in-Ok-due_for-clause-refused
-returns-in-Ok-due_for-clause-refused g c = λ refused.
-    let no_fault : c.finish-in-Ok-due_for.result ≢ WriteFault = λ fault. (let clash : Refused ≡ WriteFault = sym refused ∙ fault in cc) in
-    let whole = c.finish-in-Ok-due_for.ensures.whole no_fault in
-    solo_refused _ _ _ _ c.in-Ok.input.items c.as_slice-in-Ok-due_for.result.now c.in-Ok.ensures.whole.0 c.in-Ok.ensures.whole.1
-    (sym (ap (λ bytes. due_status (trace_at bytes)) c.as_slice.ensures.value) ∙ sym c.in-Ok-due_for.ensures.status ∙ sym whole.0 ∙ refused)
-    (c.as_slice-in-Ok-due_for.ensures.value ∙ c.in-Ok-due_for.ensures.text ∙ ap (λ bytes. due_text (trace_at bytes)) c.as_slice.ensures.value)
-    whole.1
+pub returns-in-Ok-due_for : goal.returns-in-Ok-due_for
+returns-in-Ok-due_for g c =
+    let src = c.args.src.now in
+    let left = g.S.Source.left c.read_input.new.src in
+    let written = g.K.Sink.written c.args.out.now in
+    let after = g.K.Sink.written c.finish-in-Ok-due_for.new.out in
+    let input : List ℕ = c.in-Ok.input.items in
+    let text : List ℕ = c.as_slice-in-Ok-due_for.result.now in
+    let on_input : (Q : List ℕ → Type 0) → Q input → _ = λ Q q. at_input (g.S.Source.left src) left input Q c.in-Ok.ensures.whole.0 c.in-Ok.ensures.whole.1 q in
+    let due_is : c.in-Ok-due_for.due.status ≡ status_due input = c.in-Ok-due_for.ensures.status ∙ ap status_due c.as_slice.ensures.value in
+    let text_is : IsDueText IsSoloText input text = search rules in
+    let whole = c.finish-in-Ok-due_for.ensures.whole in
+    record {
+      done = λ done. (let here = whole (λ fault. (let clash : Done ≡ WriteFault = sym done ∙ fault in cc)) in
+          on_input (λ bytes. IsAtEnd left × Writes (IsSoloText bytes) written after)
+          (c.in-Ok.ensures.whole.1, (text, trace_due (trace_at input) _ text (sym (here.0 ∙ due_is) ∙ done) text_is, here.1)));
+      refused = λ refused. (let here = whole (λ fault. (let clash : Refused ≡ WriteFault = sym refused ∙ fault in cc)) in
+          on_input (λ bytes. IsAtEnd left × Writes (IsRefusalText bytes) written after)
+          (c.in-Ok.ensures.whole.1, (text, refusal_due (trace_at input) _ text (sym (here.0 ∙ due_is) ∙ refused) text_is, here.1)));
+      usage = search rules;
+      form = search rules;
+      read_fault = search rules;
+      write_fault = search rules;
+      too_long = search rules;
+      complete = search rules;
+      front = search rules;
+      nothing = search rules;
+      unread = search rules;
+    }

@@ -1,5 +1,5 @@
 use Rattle.std.proofs.Common.{◌∙◌, ap}
-use Rattle.trace_text.specs.Fields.{is_text}
+use Rattle.wf_core.specs.Names.{is_text}
 use Rattle.trace_text.proofs.read.is_header.Goals as goal
 
 pub returns : goal.returns

@@ -1,17 +1,17 @@
 use Rattle.std.proofs.Common.{◌≡◌, ◌+◌, ℕ, List, Option, Some, None, unwrap_or, length, max, refl, sym, ap, subst, ◌∙◌, rules}
 use Rattle.wf_core.specs.declared.errno.Errno.{Errno}
 use Rattle.file_store.specs.declared.file.File.{File}
-use Rattle.file_store.specs.FileBytes.{overwritten}
-use Rattle.file_store.specs.FileGroups.{put, put_refusal, refusal}
-use Rattle.file_store.specs.Tables.{Table, row_at, with_other}
+use Rattle.file_store.specs.FileBytes.{with_bytes_at}
+use Rattle.file_store.specs.FileGroups.{with_bytes, put_refusal, refusal}
+use Rattle.file_store.specs.Tables.{Table, row_at, with_row}
 use Rattle.file_store.proofs.FileBytesLemmas.{length-overwritten}
 use Rattle.file_store.proofs.file_table.FileTable.put.Goals as goal
 
 -- the test of a size and an end is that of the bytes to be written
-refused : (files : Table File) (id : ℕ) (was : File) (at : ℕ) (bytes : List ℕ) (end size : ℕ) (found : Option Errno) → end ≡ at + length bytes → size ≡ max (length was.bytes) end → ((new : File) → length new.bytes ≡ size → found ≡ refusal end (with_other files id new)) → found ≡ put_refusal files id was at bytes
+refused : (files : Table File) (id : ℕ) (was : File) (at : ℕ) (bytes : List ℕ) (end size : ℕ) (found : Option Errno) → end ≡ at + length bytes → size ≡ max (length was.bytes) end → ((new : File) → length new.bytes ≡ size → found ≡ refusal end (with_row files id new)) → found ≡ put_refusal files id was at bytes
 refused files id was at bytes end size found e s h =
-    h (record { bytes = overwritten was.bytes at bytes; linked = was.linked }) (length-overwritten was.bytes at bytes ∙ ap (λ (n : ℕ). max (length was.bytes) n) (sym e) ∙ sym s)
-    ∙ ap (λ (n : ℕ). refusal n (put files id was at bytes)) e
+    h (record { bytes = with_bytes_at was.bytes at bytes; linked = was.linked }) (length-overwritten was.bytes at bytes ∙ ap (λ (n : ℕ). max (length was.bytes) n) (sym e) ∙ sym s)
+    ∙ ap (λ (n : ℕ). refusal n (with_bytes files id was at bytes)) e
 
 same_file : (a b : File) (found : Option File) → found ≡ Some a → found ≡ Some b → a ≡ b
 same_file a b found ea eb = ap (λ (o : Option File). unwrap_or o a) (sym ea ∙ eb)

@@ -1,6 +1,6 @@
 use Rattle.std.proofs.Common.{◌≡◌, ◌+◌, ◌%◌, ◌<◌, ◌≤◌, ◌++◌, ℕ, List, length, sym, ap, ap₂, subst, ◌∙◌, arith}
 use Rattle.std.proofs.lemmas.List.{take-append-drop}
-use Rattle.file_store.specs.Pages.{byte_at, overlaid, AreReadyFor}
+use Rattle.file_store.specs.Pages.{byte_at, overlay_byte, AreReadyFor}
 use Rattle.file_store.proofs.WriteLemmas.{piece_room, piece_written, ready_more, overlaid_append}
 use Rattle.file_store.proofs.pages.Pages.put.Goals as goal
 
@@ -27,5 +27,5 @@ loop-rest-preserved c =
     record {
       fits = omega (arith, c.loop-rest.invariant.fits, c.split_at.ensures.front_len, c.split_at.ensures.back_len);
       ready = ready_more old new at piece put.whole fits put.others put.written others next put.tight ready;
-      all = λ i. overlaid_append (byte_at old) (byte_at new) at piece others (piece_written old new at piece put.whole fits put.others put.written) i ∙ ap (λ (r : List ℕ). overlaid (byte_at old) at r i) split ∙ c.loop-rest.invariant.all i;
+      all = λ i. overlaid_append (byte_at old) (byte_at new) at piece others (piece_written old new at piece put.whole fits put.others put.written) i ∙ ap (λ (r : List ℕ). overlay_byte (byte_at old) at r i) split ∙ c.loop-rest.invariant.all i;
     }

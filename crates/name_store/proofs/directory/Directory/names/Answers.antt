@@ -23,6 +23,6 @@ some_from directory start near none =
     let keys = length-keys_of directory.entries in
     let empty = ap (λ (names : List (List ℕ)). length names) none in omega arith
 
-pub returns-in_err-push-clause-spares : goal.returns-in_err-push-clause-spares
-returns-in_err-push-clause-spares c none =
+pub returns-in_err-push-clause-succeeds : goal.returns-in_err-push-clause-succeeds
+returns-in_err-push-clause-succeeds c none =
     absurd (some_from c.args.self.now c.args.start (subst (λ (d : Listing). c.args.start < length d.entries) c.self.view_is (omega arith)) none)

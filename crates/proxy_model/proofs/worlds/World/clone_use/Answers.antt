@@ -1,6 +1,6 @@
 use Rattle.std.proofs.Common.{ap, ◌∙◌, ◌+◌}
-use Rattle.proxy_model.specs.Maps.{upd}
-use Rattle.proxy_model.specs.Worlds.{WorldState}
+use Rattle.proxy_laws.specs.Maps.{upd}
+use Rattle.proxy_laws.specs.Worlds.{WorldState}
 use Rattle.proxy_model.proofs.worlds.World.clone_use.Goals as goal
 
 pub returns : goal.returns

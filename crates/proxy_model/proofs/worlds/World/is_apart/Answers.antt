@@ -1,7 +1,12 @@
-use Rattle.std.proofs.Common.{below_more}
-use Rattle.proxy_model.specs.Parts.{AreApartIn}
+use Rattle.std.proofs.Common.{ℕ, arith, refl, rules, tests}
+use Rattle.std.proofs.lemmas.Iterator.{cases_from_all, YieldsList-from_range}
+use Rattle.proxy_model.specs.Parts.{AreApart}
 use Rattle.proxy_model.specs.Shown.{world_of}
+use Rattle.proxy_model.proofs.Below.{all_below}
 use Rattle.proxy_model.proofs.worlds.World.is_apart.Goals as goal
 
-pub loop-other-preserved : goal.loop-other-preserved
-loop-other-preserved c = below_more (AreApartIn (world_of c.args.self.now) c.args.place) c.loop-other.other c.loop-other.invariant (c.are_apart.ensures.0 c.if-not-are_apart.false)
+pub returns : goal.returns
+returns c =
+    let each = λ (k : ℕ). AreApart (world_of c.args.self.now) c.args.place k in
+    let all = cases_from_all _ _ c.all.result each (λ k. each k → ⊥) c.all.ensures.ran (YieldsList-from_range 0 _ (c.args.self.now.places) refl (omega arith)) (λ k q is. search (rules, tests)) (λ k q is. search (rules, tests)) in
+    all_below c.all.result c.args.self.now.places each all

@@ -1,5 +1,5 @@
 use Rattle.std.proofs.Common.{◌≡◌, ◌≤◌, ◌*◌, length}
-use Rattle.proxy_model.specs.Maps.{sum_below}
+use Rattle.proxy_laws.specs.Maps.{sum_below}
 use Rattle.proxy_model.specs.Shown.{world_of}
 use Rattle.proxy_model.proofs.worlds.World.put_sum.Given as goal
 

@@ -1,4 +1,0 @@
-mod descriptors;
-mod files;
-mod limits;
-mod steps;

@@ -1,0 +1,12 @@
+use Rattle.std.proofs.Common.{◌≡◌, ℕ, ◌-◌, ◌<◌, false, get_or}
+use Rattle.std.specs.Prelude.{All}
+use Rattle.std.specs.Slots.{slots_filled, slots_items, slots_len}
+use Rattle.std.specs.Slots.Ownership.{Filled}
+use Rattle.post_core.specs.Ending.{IsIdle}
+use Rattle.post_core.proofs.ending.free_rings.Given as goal
+
+abbrev pub invariant-loop-i : goal.invariant-loop-i
+invariant-loop-i g l = Filled (slots_filled l.closed.slots) l.i (slots_len l.closed.slots) × ((k : ℕ) → k < l.i → get_or (slots_filled l.closed.slots) k false ≡ false) × All (λ x. IsIdle x) (slots_items l.closed.slots)
+
+abbrev pub decreases-loop-i : goal.decreases-loop-i
+decreases-loop-i g l = slots_len l.closed.slots - l.i

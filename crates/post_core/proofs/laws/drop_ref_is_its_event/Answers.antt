@@ -1,0 +1,5 @@
+use Rattle.post_core.proofs.SendLawful.{ref_is_dropped}
+use Rattle.post_core.proofs.laws.drop_ref_is_its_event.Goals as goal
+
+pub returns : goal.returns
+returns g c target = ref_is_dropped g.J.Meant.meaning (g.J.Meant.suits target)

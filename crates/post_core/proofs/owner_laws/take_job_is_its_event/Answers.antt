@@ -1,0 +1,5 @@
+use Rattle.post_core.proofs.OwnerLawful.{job_is_taken}
+use Rattle.post_core.proofs.owner_laws.take_job_is_its_event.Goals as goal
+
+pub returns : goal.returns
+returns g c target = job_is_taken g.J.Meant.meaning (g.J.Meant.suits target)

@@ -1,0 +1,11 @@
+use Rattle.std.proofs.Common.{arith}
+use Rattle.post_core.proofs.SendAllowed.{drop_allowed}
+use Rattle.post_core.proofs.send_steps.drop_ref.Goals as goal
+
+pub fetch_sub-requires : goal.fetch_sub-requires
+fetch_sub-requires g c =
+    let key = c.args.shared.now.key in let me = c.args.seat.now.me in (
+      c.requires.table.0,
+      (let a = c.requires.table.1 in omega arith),
+      drop_allowed g.J.Meant.meaning (g.J.Meant.suits key.target) key.senders key.places c.args.shared.now.table_id.slots c.args.seat.now.id me.0 me.1 c.requires.referenced.0 c.requires.referenced.1,
+    )

@@ -1,0 +1,11 @@
+use Rattle.std.proofs.Common.{arith}
+use Rattle.post_core.proofs.Takings.{receive_allowed}
+use Rattle.post_core.proofs.serving.receive_note.Goals as goal
+
+pub store-requires : goal.store-requires
+store-requires g c =
+    let key = c.args.shared.now.key in let me = c.args.seat.now.me in (
+      c.requires.table.0,
+      (let a = c.requires.table.1 in let b = c.requires.near in omega arith),
+      receive_allowed g.J.Meant.meaning (g.J.Meant.suits key.target) key.senders key.places c.args.shared.now.table_id.slots c.args.seat.now.id me.0 me.1 c.args.place c.requires.near c.requires.got.0 c.requires.got.1,
+    )

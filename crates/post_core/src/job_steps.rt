@@ -1,0 +1,76 @@
+//! The step by which the owner takes a job.
+
+ghost use Rattle.std.specs.Prelude.{◌≡◌, ℕ, ◌∷◌, ◌<◌, IsTrue, Some, List, length};
+ghost use Rattle.proxy_laws.specs.Phases.{is_working};
+ghost use Rattle.post_core.specs.declared.views.Entry.{Entry};
+ghost use Rattle.post_core.specs.Kept.{listed};
+ghost use Rattle.post_core.specs.ServingSteps.{serving_at};
+ghost use Rattle.post_core.specs.Steps.{IsOneTable, took_job};
+ghost use Rattle.post_core.specs.Views.{IsOwnerView, job_taken, owner_of};
+
+use crate::meant::Meant;
+use crate::rule::{Law, Sizes};
+use crate::slots::Item;
+use crate::views::View;
+use atomic_table::{Play, Seat, Shared};
+use std::marker::{Brand, PhantomData};
+use task_ring::Ring;
+
+/// The target and the place of a step. Each call picks them.
+pub trait AtTarget {
+    ghost target: { ℕ };
+
+    ghost place: { ℕ };
+}
+
+impl AtTarget for Brand {
+    ghost target = { 0 };
+
+    ghost place = { 0 };
+}
+
+/// The owner takes a job.
+pub struct TakeJob<P> {
+    marker: PhantomData<P>,
+}
+
+impl<J: Meant, P: AtTarget> Play<Ring<Item<J>>, View<J::Meaning>> for TakeJob<P> {
+    ghost then = { took_job (J.suits P.target) P.place };
+}
+
+fn start_job_as<J: Meant, P: AtTarget>(
+    shared: &Shared<Ring<Item<J>>, View<J::Meaning>, Sizes, Law<J>>,
+    seat: &mut Seat<Ring<Item<J>>, View<J::Meaning>>,
+    place: u32,
+) -> u64
+    requires table { IsOneTable seat.old.table_id shared.now.table_id shared.now.key.places }
+    requires near { (shared.now.key.target ≡ P.target) × (place ≡ P.place) × (place < shared.now.key.places) }
+    requires owner { IsOwnerView seat.old.me.0 × ((owner_of seat.old.me.0).turn ≡ Some place) }
+    requires works { IsTrue (is_working (owner_of seat.old.me.0).state (serving_at place seat.old.me.0)) }
+    requires waits { 0 < length (owner_of seat.old.me.0).ring }
+    ensures seat { (seat.new.table_id ≡ seat.old.table_id) × (seat.new.id ≡ seat.old.id) }
+    ensures nth { result ≡ length (listed (owner_of seat.old.me.0).jobs place) }
+    ensures suits { (e : Entry J.Meaning) (rest : List (Entry J.Meaning)) → (owner_of seat.old.me.0).ring ≡ e ∷ rest → J.suits shared.now.key.target place e.mark e.meaning }
+    ensures taken { seat.new.me ≡ (job_taken place seat.old.me.0, seat.old.me.1) }
+{
+    shared.fetch_add::<TakeJob<P>>(seat, 262 + 5 * place as usize, 1)
+}
+
+/// Counts the first job that waits at a place as taken, and answers its number. The job suits its mark.
+pub(crate) fn start_job<J: Meant>(
+    shared: &Shared<Ring<Item<J>>, View<J::Meaning>, Sizes, Law<J>>,
+    seat: &mut Seat<Ring<Item<J>>, View<J::Meaning>>,
+    place: u32,
+) -> u64
+    requires table { IsOneTable seat.old.table_id shared.now.table_id shared.now.key.places }
+    requires near { place < shared.now.key.places }
+    requires owner { IsOwnerView seat.old.me.0 × ((owner_of seat.old.me.0).turn ≡ Some place) }
+    requires works { IsTrue (is_working (owner_of seat.old.me.0).state (serving_at place seat.old.me.0)) }
+    requires waits { 0 < length (owner_of seat.old.me.0).ring }
+    ensures seat { (seat.new.table_id ≡ seat.old.table_id) × (seat.new.id ≡ seat.old.id) }
+    ensures nth { result ≡ length (listed (owner_of seat.old.me.0).jobs place) }
+    ensures suits { (e : Entry J.Meaning) (rest : List (Entry J.Meaning)) → (owner_of seat.old.me.0).ring ≡ e ∷ rest → J.suits shared.now.key.target place e.mark e.meaning }
+    ensures taken { seat.new.me ≡ (job_taken place seat.old.me.0, seat.old.me.1) }
+{
+    start_job_as::<J, Brand>(shared, seat, place)
+}

@@ -1,0 +1,125 @@
+//! The owner looks for notices, receives them, and begins to execute.
+
+ghost use Rattle.std.specs.Prelude.{◌≡◌, ◌<◌};
+ghost use Rattle.proxy_laws.specs.declared.actors.Serving.TheVariants.{Direct};
+ghost use Rattle.post_core.specs.OwnerViews.{IsNextNotice, exec_view, got_view, owner_view};
+ghost use Rattle.post_core.specs.ServingSteps.{at_serving, place_received};
+
+use crate::mailing::{look_mail, take_notice};
+use crate::meant::Meant;
+use crate::owner::{Exec, Got, Noticed, Owner};
+use crate::post::{PlaceUse, Post};
+use crate::serving::{begin_direct, receive_note};
+use proxy_laws::Started;
+use std::sync::Wait;
+
+impl<J: Meant> Owner<J> {
+    /// Looks into the words of the mailbox in turn, up to the first that is not 0, and takes the notice of
+    /// its lowest place. Notices are numbered from 1.
+    pub fn next_notice(self, post: &Post<J>) -> Noticed<J>
+        requires { self.seat.table_id ≡ post.now.table.shared.table_id }
+        ensures { IsNextNotice (owner_view self) result }
+    {
+        let Owner {
+            mut seat,
+            target,
+            jobs,
+            got,
+            parker,
+        } = self;
+        for word in 0..4 {
+            let found = look_mail(&post.table.shared, &mut seat, word);
+            if found != 0 {
+                let place = 64 * word + found.trailing_zeros();
+                take_notice(&post.table.shared, &mut seat, place);
+                return Noticed::Got(Got {
+                    seat,
+                    target,
+                    jobs,
+                    got: got + 1,
+                    parker,
+                    place,
+                });
+            }
+        }
+        Noticed::Nothing(Owner {
+            seat,
+            target,
+            jobs,
+            got,
+            parker,
+        })
+    }
+}
+
+impl<J: Meant> Owner<J> {
+    /// Waits until somebody wakes the owner, or for no reason.
+    pub fn park<R: Wait>(self, rt: &R, _post: &Post<J>) -> Owner<J>
+        ensures { result ≡ self }
+    {
+        self.parker.park(rt);
+        self
+    }
+}
+
+impl<J: Meant> Got<J> {
+    /// The place whose notice was got.
+    pub fn place(&self) -> u32
+        ensures { result ≡ self.now.place }
+    {
+        self.place
+    }
+
+    /// Receives the place's note, and begins to execute its jobs.
+    pub fn receive(self, post: &Post<J>) -> Exec<J>
+        requires { self.seat.table_id ≡ post.now.table.shared.table_id }
+        ensures { exec_view result ≡ place_received self.place (got_view self) }
+    {
+        let Got {
+            mut seat,
+            target,
+            jobs,
+            got,
+            parker,
+            place,
+        } = self;
+        receive_note(&post.table.shared, &mut seat, place);
+        Exec {
+            seat,
+            target,
+            jobs,
+            got,
+            parker,
+            place,
+            start: Started::Notice(got),
+        }
+    }
+}
+
+impl<J: Meant> Owner<J> {
+    /// Begins to execute the place's jobs without a notice. Its note stays as it is.
+    pub fn direct(self, post: &Post<J>, place_use: &PlaceUse) -> Exec<J>
+        requires table { self.seat.table_id ≡ post.now.table.shared.table_id }
+        requires near { place_use.now.place < post.now.places }
+        ensures { exec_view result ≡ at_serving place_use.now.place Direct (owner_view self) }
+    {
+        let Owner {
+            mut seat,
+            target,
+            jobs,
+            got,
+            parker,
+        } = self;
+        let place = place_use.place;
+        begin_direct(&post.table.shared, &mut seat, place);
+        Exec {
+            seat,
+            target,
+            jobs,
+            got,
+            parker,
+            place,
+            start: Started::Direct,
+        }
+    }
+}

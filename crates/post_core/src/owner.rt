@@ -1,0 +1,115 @@
+//! What the owner of a target holds, in each of its states. A thread is in one of them.
+
+ghost use Rattle.std.specs.Prelude.{◌≡◌, ◌<◌, true, [], map, length};
+ghost use Rattle.proxy_laws.specs.declared.actors.Serving.TheVariants.{Got as GotUnder};
+ghost use Rattle.proxy_laws.specs.Phases.{serving_after_look};
+ghost use Rattle.post_core.specs.Parts.{IsEmptied, IsOwner, IsOwnerAt, is_open_start, serving_of};
+
+use crate::meant::Meant;
+use crate::records::StartedJob;
+use crate::slots::Item;
+use crate::views::View;
+use atomic_table::Seat;
+use crossbeam_utils::sync::Parker;
+use proxy_laws::{Mark, Started};
+use task_ring::Ring;
+
+/// The jobs of one place that the owner took.
+#[derive(Drop)]
+pub struct PlaceJobs {
+    /// Those that it took before it closed.
+    pub(crate) started: Vec<StartedJob>,
+    /// How many it took in all.
+    pub(crate) taken: u64,
+}
+
+/// The owner of an open target, which works nowhere.
+pub struct Owner<J: Meant> {
+    pub(crate) seat: Seat<Ring<Item<J>>, View<J::Meaning>>,
+    pub(crate) target: u32,
+    // By place.
+    pub(crate) jobs: Vec<PlaceJobs>,
+    // How many notices it got.
+    pub(crate) got: u64,
+    pub(crate) parker: Parker,
+    ghost is_owner: { IsOwner (map (λ place. place.started.items) jobs.items) (map (λ place. place.taken) jobs.items) got seat.me.0 },
+    ghost empty: { (seat.me.1 ≡ []) × (length jobs.items ≡ seat.table_id.slots) },
+}
+
+/// An owner that has got a notice of a place.
+pub struct Got<J: Meant> {
+    pub(crate) seat: Seat<Ring<Item<J>>, View<J::Meaning>>,
+    pub(crate) target: u32,
+    // By place.
+    pub(crate) jobs: Vec<PlaceJobs>,
+    // How many notices it got.
+    pub(crate) got: u64,
+    pub(crate) parker: Parker,
+    pub(crate) place: u32,
+    ghost is_got: { IsOwnerAt place (GotUnder got) (map (λ place. place.started.items) jobs.items) (map (λ place. place.taken) jobs.items) got seat.me.0 },
+    ghost empty: { (seat.me.1 ≡ []) × (length jobs.items ≡ seat.table_id.slots) },
+    ghost near: { place < seat.table_id.slots },
+}
+
+/// An owner that executes the jobs of a place.
+pub struct Exec<J: Meant> {
+    pub(crate) seat: Seat<Ring<Item<J>>, View<J::Meaning>>,
+    pub(crate) target: u32,
+    // By place.
+    pub(crate) jobs: Vec<PlaceJobs>,
+    // How many notices it got.
+    pub(crate) got: u64,
+    pub(crate) parker: Parker,
+    pub(crate) place: u32,
+    // What starts the jobs that it takes.
+    pub(crate) start: Started,
+    ghost is_exec: { IsOwnerAt place (serving_of start) (map (λ place. place.started.items) jobs.items) (map (λ place. place.taken) jobs.items) got seat.me.0 },
+    ghost runs: { is_open_start start ≡ true },
+    ghost empty: { (seat.me.1 ≡ []) × (length jobs.items ≡ seat.table_id.slots) },
+    ghost near: { place < seat.table_id.slots },
+}
+
+/// An owner that has found no job waiting at the place that it executed.
+pub struct SeenEmpty<J: Meant> {
+    pub(crate) seat: Seat<Ring<Item<J>>, View<J::Meaning>>,
+    pub(crate) target: u32,
+    // By place.
+    pub(crate) jobs: Vec<PlaceJobs>,
+    // How many notices it got.
+    pub(crate) got: u64,
+    pub(crate) parker: Parker,
+    pub(crate) place: u32,
+    pub(crate) start: Started,
+    ghost is_seen: { IsOwnerAt place (serving_after_look (serving_of start)) (map (λ place. place.started.items) jobs.items) (map (λ place. place.taken) jobs.items) got seat.me.0 },
+    ghost runs: { is_open_start start ≡ true },
+    ghost empty: { (seat.me.1 ≡ []) × (length jobs.items ≡ seat.table_id.slots) },
+    ghost near: { place < seat.table_id.slots },
+}
+
+/// The owner of a target that is closed and at which nothing waits.
+pub struct Emptied<J: Meant> {
+    pub(crate) seat: Seat<Ring<Item<J>>, View<J::Meaning>>,
+    pub(crate) target: u32,
+    // By place.
+    pub(crate) jobs: Vec<PlaceJobs>,
+    ghost is_emptied: { IsEmptied (map (λ place. place.started.items) jobs.items) (map (λ place. place.taken) jobs.items) seat.me.0 },
+    ghost empty: { (seat.me.1 ≡ []) × (length jobs.items ≡ seat.table_id.slots) },
+}
+
+/// What an owner found in its mailbox.
+pub enum Noticed<J: Meant> {
+    Got(Got<J>),
+    Nothing(Owner<J>),
+}
+
+/// What an owner took at the place that it executes.
+pub enum Taken<J: Meant> {
+    /// The first job that waited there: its number, its mark and itself.
+    Job {
+        exec: Exec<J>,
+        nth: u64,
+        mark: Mark,
+        job: J,
+    },
+    Empty(SeenEmpty<J>),
+}

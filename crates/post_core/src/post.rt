@@ -1,0 +1,88 @@
+//! A target's table, and what senders and the owner hold of it.
+
+ghost use Rattle.std.specs.Prelude.{◌≡◌, ℕ, ◌+◌, ◌<◌, [], map, length};
+ghost use Rattle.post_core.specs.Parts.{IsPass};
+ghost use Rattle.post_core.specs.Views.{noted};
+ghost use Rattle.post_core.specs.Words.{word_count};
+ghost use Rattle.proxy_laws.specs.declared.actors.Phase.TheVariants.{Idle, Messenger, Owing as OwingAt, Referenced};
+
+use crate::meant::Meant;
+use crate::rule::{Law, Sizes};
+use crate::slots::Item;
+use crate::views::View;
+use atomic_table::{Seat, Table};
+use crossbeam_utils::sync::Unparker;
+use proxy_laws::OwnMark;
+use std::alloc::Global;
+use task_ring::Ring;
+
+/// The table of one target, which threads share.
+pub struct Post<J: Meant> {
+    pub(crate) table: Table<Ring<Item<J>>, View<J::Meaning>, Sizes, Law<J>, Global>,
+    pub(crate) target: u32,
+    pub(crate) senders: u32,
+    pub(crate) places: u32,
+    // Wakes the owner where it parks.
+    pub(crate) waker: Unparker,
+    ghost key: { table.shared.key ≡ record { target = target; senders = senders; places = places } },
+    ghost sized: { (table.shared.table_id.words ≡ word_count places) × (table.shared.table_id.slots ≡ places) },
+}
+
+/// What one sender holds of a target. It has no reference.
+pub struct SendPass<J: Meant> {
+    pub(crate) seat: Seat<Ring<Item<J>>, View<J::Meaning>>,
+    pub(crate) target: u32,
+    pub(crate) sender: u32,
+    // By place: the marks that it put there.
+    pub(crate) own: Vec<Vec<OwnMark>>,
+    ghost is_pass: { IsPass sender Idle (map (λ kept. kept.items) own.items) seat.me.0 },
+    ghost empty: { (seat.me.1 ≡ []) × (length own.items ≡ seat.table_id.slots) },
+}
+
+/// A pass with a reference of its target.
+pub struct RefPass<J: Meant> {
+    pub(crate) seat: Seat<Ring<Item<J>>, View<J::Meaning>>,
+    pub(crate) target: u32,
+    pub(crate) sender: u32,
+    pub(crate) own: Vec<Vec<OwnMark>>,
+    ghost is_pass: { IsPass sender Referenced (map (λ kept. kept.items) own.items) seat.me.0 },
+    ghost empty: { (seat.me.1 ≡ []) × (length own.items ≡ seat.table_id.slots) },
+}
+
+/// A pass that has put a job at a place, and owes a notification.
+pub struct Owing<J: Meant> {
+    pub(crate) seat: Seat<Ring<Item<J>>, View<J::Meaning>>,
+    pub(crate) target: u32,
+    pub(crate) sender: u32,
+    pub(crate) own: Vec<Vec<OwnMark>>,
+    pub(crate) place: u32,
+    pub(crate) nth: u64,
+    ghost is_pass: { IsPass sender (OwingAt place) (map (λ kept. kept.items) own.items) seat.me.0 },
+    ghost empty: { (seat.me.1 ≡ []) × (length own.items ≡ seat.table_id.slots) },
+    ghost near: { place < seat.table_id.slots },
+}
+
+/// A pass that has to bring a notice of a place to the mailbox.
+pub struct Notice<J: Meant> {
+    pub(crate) seat: Seat<Ring<Item<J>>, View<J::Meaning>>,
+    pub(crate) target: u32,
+    pub(crate) sender: u32,
+    pub(crate) own: Vec<Vec<OwnMark>>,
+    pub(crate) place: u32,
+    ghost is_pass: { IsPass sender (Messenger place) (map (λ kept. kept.items) own.items) seat.me.0 },
+    ghost empty: { (seat.me.1 ≡ []) × (length own.items ≡ seat.table_id.slots) },
+    ghost near: { place < seat.table_id.slots },
+}
+
+/// What a pass or the owner has seen of a target. A pass that meets it has seen that too.
+pub struct SeenNote<J: Meant> {
+    pub(crate) seat: Seat<Ring<Item<J>>, View<J::Meaning>>,
+    ghost is_note: { (seat.me.0 ≡ noted seat.me.0) × (seat.me.1 ≡ []) },
+}
+
+/// A use of a place by one sender.
+pub struct PlaceUse {
+    pub(crate) target: u32,
+    pub(crate) place: u32,
+    pub(crate) sender: u32,
+}

@@ -1,0 +1,214 @@
+//! The calls of a sender: it takes a reference, puts jobs, notifies, and gives the reference back.
+
+ghost use Rattle.std.specs.Prelude.{◌≡◌, false};
+ghost use Rattle.proxy_laws.specs.declared.actors.Phase.TheVariants.{Idle, Messenger, Referenced};
+ghost use Rattle.post_core.specs.SendParts.{IfClosed, IfHeld, IfMessenger, IfNoMemory, IfPut, IfQuiet, IsNoticeOf, IsOwingOf, IsPassOf, IsRefPassOf, IsUseOf, next_own_mark, notice_view, owing_view, pass_view, ref_view};
+ghost use Rattle.post_core.specs.SendSteps.{IsNextAt, has_seen_closed, job_sent, none_seen};
+ghost use Rattle.post_core.specs.Views.{at_phase};
+
+use crate::mailing::add_mail;
+use crate::meant::Meant;
+use crate::post::{Notice, Owing, PlaceUse, Post, RefPass, SendPass};
+use crate::put_jobs::put_marked;
+use crate::send_answers::{Notified, PutAnswer, RefAnswer};
+use crate::send_steps::{add_ref, drop_ref, load_refs, swap_note};
+use proxy_laws::Mark;
+use std::sync::Wait;
+
+/// The word of a note that is pending.
+const PENDING: u64 = 1;
+
+impl<J: Meant> Post<J> {
+    /// Takes a reference of the target for a pass. It waits where other senders keep changing their number.
+    pub fn take_ref<R: Wait>(&self, rt: &R, pass: SendPass<J>) -> RefAnswer<J>
+        requires table { IsPassOf self.now pass }
+        ensures held { IfHeld result (λ held. IsRefPassOf self.now held × (held.sender ≡ pass.sender) × (ref_view held ≡ at_phase Referenced (pass_view pass))) }
+
+        // A pass that has seen that the target is closed gets no reference.
+        ensures stands { IfHeld result (λ held. has_seen_closed (pass_view pass) ≡ false) }
+
+        // A load in this call found no reference, and the pass has seen that.
+        ensures closed { IfClosed result (λ back. IsPassOf self.now back × (back.sender ≡ pass.sender) × (pass_view back ≡ none_seen (pass_view pass))) }
+    {
+        let SendPass {
+            mut seat,
+            target,
+            sender,
+            own,
+        } = pass;
+        let mut seen = load_refs(&self.table.shared, &mut seat);
+        for _ in rt.forever() {
+            if seen == 0 {
+                return RefAnswer::Closed(SendPass {
+                    seat,
+                    target,
+                    sender,
+                    own,
+                });
+            }
+            let found = add_ref(&self.table.shared, &mut seat, seen);
+            if found == seen {
+                return RefAnswer::Held(RefPass {
+                    seat,
+                    target,
+                    sender,
+                    own,
+                });
+            }
+            seen = found;
+        }
+        unreachable!()
+    }
+}
+
+impl<J: Meant> RefPass<J> {
+    /// Puts a job at the place of a use, under the mark of this sender's next job there with this tag. It waits until the
+    /// turn of the place is free, and for good where the pass has put 2^48 jobs there.
+    pub fn put<R: Wait>(
+        self,
+        rt: &R,
+        post: &Post<J>,
+        place_use: &PlaceUse,
+        tag: u64,
+        job: J,
+    ) -> PutAnswer<J>
+        requires table { IsRefPassOf post.now self }
+        requires place { IsUseOf post.now self place_use.now }
+        requires suits { J.suits post.now.target place_use.now.place (next_own_mark self place_use.now.place tag) (J.meaning job) }
+
+        // The job's number is the next at its place, and the pass keeps its mark.
+        ensures put { IfPut result (λ owing. IsOwingOf post.now owing × (owing.sender ≡ self.sender) × (owing.place ≡ place_use.now.place) × IsNextAt owing.place owing.nth (ref_view self)
+            × (owing_view owing ≡ job_sent owing.place owing.nth (record { mark = next_own_mark self owing.place tag; meaning = J.meaning job }) (ref_view self))) }
+        ensures no_memory { IfNoMemory result (λ pass back. IsRefPassOf post.now pass × (pass.sender ≡ self.sender) × (ref_view pass ≡ ref_view self) × (back ≡ job)) }
+    {
+        let RefPass {
+            mut seat,
+            target,
+            sender,
+            mut own,
+        } = self;
+        let place = place_use.place;
+        let kept = &mut own[place as usize];
+        match put_marked(
+            rt,
+            &post.table.shared,
+            &mut seat,
+            kept,
+            place,
+            Mark {
+                sender,
+                seq: kept.len() as u64,
+                tag,
+            },
+            job,
+        ) {
+            Ok(nth) => PutAnswer::Put(Owing {
+                seat,
+                target,
+                sender,
+                own,
+                place,
+                nth,
+            }),
+            Err(job) => PutAnswer::NoMemory(
+                RefPass {
+                    seat,
+                    target,
+                    sender,
+                    own,
+                },
+                job,
+            ),
+        }
+    }
+
+    /// Gives the reference back.
+    pub fn give(self, post: &Post<J>) -> SendPass<J>
+        requires table { IsRefPassOf post.now self }
+        ensures { IsPassOf post.now result × (result.sender ≡ self.sender) × (pass_view result ≡ at_phase Idle (ref_view self)) }
+    {
+        let RefPass {
+            mut seat,
+            target,
+            sender,
+            own,
+        } = self;
+        drop_ref(&post.table.shared, &mut seat);
+        SendPass {
+            seat,
+            target,
+            sender,
+            own,
+        }
+    }
+}
+
+impl<J: Meant> Owing<J> {
+    /// The number of the job at its place.
+    pub fn nth(&self) -> u64
+        ensures { result ≡ self.now.nth }
+    {
+        self.nth
+    }
+
+    /// Makes the note of the place pending.
+    pub fn notify(self, post: &Post<J>) -> Notified<J>
+        requires table { IsOwingOf post.now self }
+
+        // The note was pending.
+        ensures quiet { IfQuiet result (λ pass. IsRefPassOf post.now pass × (pass.sender ≡ self.sender) × (ref_view pass ≡ at_phase Referenced (owing_view self))) }
+
+        // It was not.
+        ensures messenger { IfMessenger result (λ notice. IsNoticeOf post.now notice × (notice.sender ≡ self.sender) × (notice.place ≡ self.place) × (notice_view notice ≡ at_phase (Messenger self.place) (owing_view self))) }
+    {
+        let Owing {
+            mut seat,
+            target,
+            sender,
+            own,
+            place,
+            nth: _,
+        } = self;
+        let found = swap_note(&post.table.shared, &mut seat, place);
+        if found == PENDING {
+            return Notified::Quiet(RefPass {
+                seat,
+                target,
+                sender,
+                own,
+            });
+        }
+        Notified::Messenger(Notice {
+            seat,
+            target,
+            sender,
+            own,
+            place,
+        })
+    }
+}
+
+impl<J: Meant> Notice<J> {
+    /// Brings the notice to the mailbox, and wakes the owner where its word held none.
+    pub fn deliver(self, post: &Post<J>) -> RefPass<J>
+        requires table { IsNoticeOf post.now self }
+        ensures { IsRefPassOf post.now result × (result.sender ≡ self.sender) × (ref_view result ≡ at_phase Referenced (notice_view self)) }
+    {
+        let Notice {
+            mut seat,
+            target,
+            sender,
+            own,
+            place,
+        } = self;
+        if add_mail(&post.table.shared, &mut seat, place) == 0 {
+            post.waker.unpark();
+        }
+        RefPass {
+            seat,
+            target,
+            sender,
+            own,
+        }
+    }
+}

@@ -1,0 +1,58 @@
+//! The owner settles jobs that it took.
+
+ghost use Rattle.std.specs.Prelude.{◌≡◌, ◌<◌, Some, map, length, slice_set};
+ghost use Rattle.proxy_laws.specs.declared.records.FateMark.TheVariants.{Finished};
+ghost use Rattle.post_core.specs.Kept.{listed};
+ghost use Rattle.post_core.specs.NoteParts.{IsNoteOf, note_view};
+ghost use Rattle.post_core.specs.OwnerViews.{exec_view, owner_view};
+ghost use Rattle.post_core.specs.Settles.{kept_settled};
+ghost use Rattle.post_core.specs.Steps.{IsActiveHere};
+ghost use Rattle.post_core.specs.Views.{job_settled, noted, owner_of};
+
+use crate::meant::Meant;
+use crate::owner::{Exec, Owner, PlaceJobs};
+use crate::post::{Post, SeenNote};
+use crate::steps::settle;
+use proxy_laws::FateMark;
+
+/// Keeps the fate of a job that was started at the place.
+fn keep_fate(jobs: &mut Vec<PlaceJobs>, place: u32, nth: u64, fate: FateMark)
+    requires near { place < length jobs.old.items }
+    requires there { nth < length (listed (map (λ place. place.started.items) jobs.old.items) place) }
+    ensures started { map (λ place. place.started.items) jobs.new.items ≡ slice_set (map (λ place. place.started.items) jobs.old.items) place (kept_settled nth fate (listed (map (λ place. place.started.items) jobs.old.items) place)) }
+    ensures taken { map (λ place. place.taken) jobs.new.items ≡ map (λ place. place.taken) jobs.old.items }
+{
+    jobs[place as usize].started[nth as usize].fate = Some(fate);
+}
+
+impl<J: Meant> Owner<J> {
+    /// Settles a job that it took and that is not settled. The note has seen that.
+    pub fn settle(&mut self, post: &Post<J>, place: u32, nth: u64, fate: FateMark) -> SeenNote<J>
+        requires table { self.old.seat.table_id ≡ post.now.table.shared.table_id }
+        requires near { place < post.now.places }
+        requires active { IsActiveHere (listed (owner_of (owner_view self.old)).jobs place) nth }
+        requires finished { fate ≡ Finished }
+        ensures owner { (self.new.seat.table_id ≡ self.old.seat.table_id) × (owner_view self.new ≡ job_settled place nth Finished (owner_view self.old)) }
+        ensures note { IsNoteOf post.now result × (note_view result ≡ noted (owner_view self.new)) }
+    {
+        let note = settle(&post.table.shared, &mut self.seat, place, nth, fate);
+        keep_fate(&mut self.jobs, place, nth, fate);
+        SeenNote { seat: note }
+    }
+}
+
+impl<J: Meant> Exec<J> {
+    /// Settles a job that it took and that is not settled. The note has seen that.
+    pub fn settle(&mut self, post: &Post<J>, place: u32, nth: u64, fate: FateMark) -> SeenNote<J>
+        requires table { self.old.seat.table_id ≡ post.now.table.shared.table_id }
+        requires near { place < post.now.places }
+        requires active { IsActiveHere (listed (owner_of (exec_view self.old)).jobs place) nth }
+        requires finished { fate ≡ Finished }
+        ensures owner { (self.new.seat.table_id ≡ self.old.seat.table_id) × (self.new.place ≡ self.old.place) × (exec_view self.new ≡ job_settled place nth Finished (exec_view self.old)) }
+        ensures note { IsNoteOf post.now result × (note_view result ≡ noted (exec_view self.new)) }
+    {
+        let note = settle(&post.table.shared, &mut self.seat, place, nth, fate);
+        keep_fate(&mut self.jobs, place, nth, fate);
+        SeenNote { seat: note }
+    }
+}

@@ -1,0 +1,129 @@
+//! The owner takes jobs of the place that it executes, and finishes with it.
+
+ghost use Rattle.std.specs.Prelude.{◌≡◌, ◌+◌, ◌-◌, ◌∷◌, ◌++◌, ◌<◌, ◌≤◌, Some, [], map, length, slice_get, slice_index, slice_set, vec_capacity, OnOk};
+ghost use Rattle.post_core.specs.Kept.{listed};
+ghost use Rattle.post_core.specs.OwnerViews.{IsTaken, exec_room, exec_view, finished_view, owner_view, room_here, seen_view};
+
+use crate::first_job::first_job;
+use crate::meant::Meant;
+use crate::owner::{Exec, Owner, PlaceJobs, SeenEmpty, Taken};
+use crate::post::Post;
+use crate::records::StartedJob;
+use crate::serving::finish_place;
+use crate::slots::Item;
+use proxy_laws::Started;
+use std::alloc::AllocError;
+use std::sync::Wait;
+
+/// Makes room to keep one job more of the place.
+fn make_room(jobs: &mut Vec<PlaceJobs>, place: u32) -> Result<(), AllocError>
+    requires { place < length jobs.old.items }
+    ensures room { OnOk result (1 ≤ room_here (slice_get jobs.new.items place)) }
+    ensures started { map (λ place. place.started.items) jobs.new.items ≡ map (λ place. place.started.items) jobs.old.items }
+    ensures taken { map (λ place. place.taken) jobs.new.items ≡ map (λ place. place.taken) jobs.old.items }
+{
+    jobs[place as usize].started.reserve(1)?;
+    Ok(())
+}
+
+/// Keeps a job that was started at the place, as the last.
+fn keep_started(jobs: &mut Vec<PlaceJobs>, place: u32, job: StartedJob)
+    requires near { place < length jobs.old.items }
+    requires room { 1 ≤ room_here (slice_get jobs.old.items place) }
+    requires all { slice_index (map (λ place. place.taken) jobs.old.items) place ≡ length (listed (map (λ place. place.started.items) jobs.old.items) place) }
+    ensures started { map (λ place. place.started.items) jobs.new.items ≡ slice_set (map (λ place. place.started.items) jobs.old.items) place (listed (map (λ place. place.started.items) jobs.old.items) place ++ job ∷ []) }
+    ensures taken { map (λ place. place.taken) jobs.new.items ≡ slice_set (map (λ place. place.taken) jobs.old.items) place (slice_index (map (λ place. place.taken) jobs.old.items) place + 1) }
+{
+    let kept = &mut jobs[place as usize];
+    kept.started.push_reserved(job);
+    kept.taken += 1;
+}
+
+impl<J: Meant> Exec<J> {
+    /// Makes room to keep one job more.
+    pub fn ready(&mut self) -> Result<(), AllocError>
+        ensures room { OnOk result (1 ≤ exec_room self.new) }
+        ensures kept { (exec_view self.new ≡ exec_view self.old) × (self.new.place ≡ self.old.place) × (self.new.seat.table_id ≡ self.old.seat.table_id) }
+    {
+        make_room(&mut self.jobs, self.place)
+    }
+
+    /// Takes the first job that waits at the place, or finds as many taken as put. It waits for the turn.
+    pub fn take<R: Wait>(self, rt: &R, post: &Post<J>) -> Taken<J>
+        requires table { self.seat.table_id ≡ post.now.table.shared.table_id }
+        requires room { 1 ≤ exec_room self }
+        ensures { IsTaken J.meaning (J.suits post.now.target) self.place (exec_view self) result }
+    {
+        let Exec {
+            mut seat,
+            target,
+            mut jobs,
+            got,
+            parker,
+            place,
+            start,
+        } = self;
+        match first_job(rt, &post.table.shared, &mut seat, place) {
+            Some((nth, Item { mark, job })) => {
+                let started = StartedJob {
+                    mark,
+                    started: start,
+                    fate: None,
+                };
+                keep_started(&mut jobs, place, started);
+                Taken::Job {
+                    exec: Exec {
+                        seat,
+                        target,
+                        jobs,
+                        got,
+                        parker,
+                        place,
+                        start,
+                    },
+                    nth,
+                    mark,
+                    job,
+                }
+            }
+            None => Taken::Empty(SeenEmpty {
+                seat,
+                target,
+                jobs,
+                got,
+                parker,
+                place,
+                start,
+            }),
+        }
+    }
+}
+
+impl<J: Meant> SeenEmpty<J> {
+    /// Is done with the place. After an execution under a notice the place's note is exchanged from received
+    /// for none, whether that wins or not; after a direct one nothing is left to do.
+    pub fn finish(self, post: &Post<J>) -> Owner<J>
+        requires { self.seat.table_id ≡ post.now.table.shared.table_id }
+        ensures { owner_view result ≡ finished_view self.start self.place (seen_view self) }
+    {
+        let SeenEmpty {
+            mut seat,
+            target,
+            jobs,
+            got,
+            parker,
+            place,
+            start,
+        } = self;
+        if let Started::Notice(_) = start {
+            finish_place(&post.table.shared, &mut seat, place);
+        }
+        Owner {
+            seat,
+            target,
+            jobs,
+            got,
+            parker,
+        }
+    }
+}

@@ -1,0 +1,65 @@
+use run_engine::solo;
+use std::alloc::{AllocError, Global};
+use std::test::Fail;
+use wf_core::{MemSink, MemSource, RunStatus, StdSink, StdSource};
+
+mod faults;
+mod walks;
+
+/// The words of `solo` alone.
+fn solo_words(alloc: Global) -> Result<Vec<String>, AllocError> {
+    let mut words = Vec::new(alloc);
+    words.push(String::from_str(alloc, "solo")?)?;
+    Ok(words)
+}
+
+/// Runs `solo` on an input, without a fault.
+fn run_on(alloc: Global, input: &[u8]) -> Result<(RunStatus, MemSink), AllocError> {
+    let words = solo_words(alloc)?;
+    let mut src = MemSource::new(Vec::from_slice(alloc, input)?, 4096, Vec::new(alloc));
+    let mut out = MemSink::new(alloc, 65536, 4096, Vec::new(alloc))?;
+    let status = solo(alloc, words.as_slice(), &mut src, &mut out);
+    Ok((status, out))
+}
+
+#[test]
+fn short_inputs(rt: HostRuntime) -> Result<(), Fail> {
+    let cases = [
+        ("", RunStatus::Refused, "line 1: Header\n"),
+        ("wasmfs-trace 1\n", RunStatus::Done, "dir 0 /\nend\n"),
+        (
+            "wasmfs-trace 1\nthread A\n",
+            RunStatus::Done,
+            "dir 0 /\nend\n",
+        ),
+        (
+            "wasmfs-trace 1\nthread main\nmain: stat /\n",
+            RunStatus::Done,
+            "reply main 1 ok dir\ndir 0 /\nend\n",
+        ),
+        (
+            "wasmfs-trace 1\nthread A\nB: stat /\n",
+            RunStatus::Refused,
+            "line 3: UnknownWord\n",
+        ),
+        (
+            "wasmfs-trace 1\nthread A\nA: stat %2F\n",
+            RunStatus::Refused,
+            "line 3: BadArgument\n",
+        ),
+    ];
+    for (input, status, text) in cases {
+        let (ended, out) = run_on(rt.alloc(), input.as_bytes())?;
+        assert_eq!(rt; ended, status, "{input}");
+        assert_eq!(rt; out.as_bytes(), text.as_bytes(), "{input}");
+    }
+    Ok(())
+}
+
+#[test]
+fn no_word_on_the_real_streams(rt: HostRuntime) {
+    let mut src = StdSource::new(rt.stdin());
+    let mut out = StdSink::new(rt.stdout());
+    let status = solo(rt.alloc(), &[], &mut src, &mut out);
+    assert_eq!(rt; status.number(), 2);
+}

@@ -1,0 +1,16 @@
+pub mod Events
+pub mod Fates
+pub mod Laws
+pub mod Limits
+pub mod Lists
+pub mod Mailbox
+pub mod Maps
+pub mod OwnMarks
+pub mod Phases
+pub mod Promises
+pub mod Runs
+pub mod Settling
+pub mod Sound
+pub mod Starts
+pub mod Unsound
+pub mod Worlds

@@ -1,5 +1,0 @@
-use Rattle.proxy_model.proofs.Kept.{jobs_are_kept}
-use Rattle.proxy_model.proofs.laws.jobs_are_kept.Goals as goal
-
-pub returns : goal.returns
-returns c = jobs_are_kept

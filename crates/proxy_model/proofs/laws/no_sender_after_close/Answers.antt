@@ -1,5 +1,0 @@
-use Rattle.proxy_model.proofs.Promised.{no_sender_after_close}
-use Rattle.proxy_model.proofs.laws.no_sender_after_close.Goals as goal
-
-pub returns : goal.returns
-returns c = no_sender_after_close

@@ -1,5 +1,0 @@
-use Rattle.proxy_model.proofs.Promised.{nothing_is_lost}
-use Rattle.proxy_model.proofs.laws.nothing_is_lost.Goals as goal
-
-pub returns : goal.returns
-returns c = nothing_is_lost

@@ -1,5 +1,0 @@
-use Rattle.proxy_model.proofs.Promised.{notices_find_room}
-use Rattle.proxy_model.proofs.laws.notices_find_room.Goals as goal
-
-pub returns : goal.returns
-returns c = notices_find_room

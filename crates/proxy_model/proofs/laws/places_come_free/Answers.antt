@@ -1,5 +1,0 @@
-use Rattle.proxy_model.proofs.Promised.{places_come_free}
-use Rattle.proxy_model.proofs.laws.places_come_free.Goals as goal
-
-pub returns : goal.returns
-returns c = places_come_free

@@ -1,5 +1,0 @@
-use Rattle.proxy_model.proofs.References.{references_keep}
-use Rattle.proxy_model.proofs.laws.references_keep.Goals as goal
-
-pub returns : goal.returns
-returns c = references_keep

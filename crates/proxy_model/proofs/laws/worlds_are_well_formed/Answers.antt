@@ -1,5 +1,0 @@
-use Rattle.proxy_model.proofs.WellFormed.{worlds_are_well_formed}
-use Rattle.proxy_model.proofs.laws.worlds_are_well_formed.Goals as goal
-
-pub returns : goal.returns
-returns c = worlds_are_well_formed

@@ -1,7 +1,0 @@
-use Rattle.std.proofs.Common.{ℕ, ◌<◌}
-use Rattle.proxy_model.specs.Shown.{world_of}
-use Rattle.proxy_model.specs.Parts.{IsTakenIn}
-use Rattle.proxy_model.proofs.worlds.World.are_taken.Given as goal
-
-abbrev pub invariant-loop-place : goal.invariant-loop-place
-invariant-loop-place l = (n : ℕ) → n < l.place → IsTakenIn (world_of l.self) n

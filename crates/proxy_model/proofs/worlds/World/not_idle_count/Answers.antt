@@ -1,0 +1,11 @@
+use Rattle.std.proofs.Common.{◌≡◌, ◌∙◌, count_by, rules, not}
+use Rattle.proxy_laws.specs.declared.actors.Phase.{Phase}
+use Rattle.proxy_laws.specs.declared.actors.Phase.TheVariants as phase
+use Rattle.proxy_laws.specs.Phases.{is_idle}
+use Rattle.proxy_model.proofs.Listed.{count_by_places}
+use Rattle.proxy_model.proofs.worlds.World.not_idle_count.Goals as goal
+
+pub returns : goal.returns
+returns c =
+    let listed : c.count.result ≡ count_by (λ (ph : Phase). not (is_idle ph)) c.args.self.now.phases.items = search rules in
+    listed ∙ count_by_places (λ (ph : Phase). not (is_idle ph)) c.args.self.now.phases.items phase.Idle c.args.self.now.senders c.args.self.now.has_senders.phases_len

@@ -1,0 +1,4 @@
+mod descriptors;
+mod limits;
+mod operations;
+mod steps;
