@@ -4,6 +4,7 @@
 
 pub use errno::Errno;
 pub use gate::{Gate, OpenGate};
+pub use ids::{BackendId, DescriptionId, DirId, FileId, LinkId};
 pub use limits::{
     FILE_MAX, GROUP_COUNT, GROUP_MAX, INPUT_MAX, LIST_MAX, NAME_MAX, OFFSET_MAX, OPEN_MAX,
     PAGE_SIZE, PATH_MAX, PATH_NAMES_MAX, READ_MAX,
@@ -17,6 +18,7 @@ pub use text::Text;
 
 mod errno;
 mod gate;
+mod ids;
 mod limits;
 mod name;
 mod path_text;
