@@ -17,16 +17,13 @@ use Rattle.post_core.specs.declared.slots.Item.{Item}
 use Rattle.post_core.specs.declared.views.View.{View}
 use Rattle.post_core.specs.MailSteps.{added_mail, looked_mail, lowest_in, notice_found, notice_taken, took_notice, word_empty}
 use Rattle.post_core.specs.Rule.{OwnerFits, Shown}
-use Rattle.post_core.specs.ServingSteps.{at_serving, began_directly, finished_place, looked_place, place_from, place_looked, place_received, received_place, serving_at}
+use Rattle.post_core.specs.ServingSteps.{at_serving, began_directly, finished_place, looked_place, place_looked, place_received, received_place, serving_at}
 use Rattle.post_core.specs.Views.{IsOwnerView, IsPassView, at_phase, owner_of, pass_of}
 use Rattle.post_core.specs.Words.{mail_at, note_at, put_at}
 use Rattle.post_core.proofs.Executed.{begins_directly, finishes, found_is, looks_place, receives}
 use Rattle.post_core.proofs.Numbers.{got_few}
 use Rattle.post_core.proofs.Mailed.{adds_mail, looks_empty, looks_found, takes_notice}
-
--- a word of a place tells the place
-pub place_is : (first p : ℕ) → place_from first (first + 5 * p) ≡ p
-place_is first p = omega arith
+use Rattle.post_core.proofs.Words.{place_is}
 
 module _ {J M : Type 0} (meaning : J → M) (suits : ℕ → Mark → M → Type 0) (senders places : ℕ) (slots id : ℕ) (v : View M) (held : List (ℕ × RingView (Item J))) where
   pub add_allowed : (p : ℕ) → p < places → IsPassView v → (pass_of v).phase ≡ phase.Messenger p

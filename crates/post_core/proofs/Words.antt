@@ -1,6 +1,6 @@
 -- What the words show once one of them is set.
 use Rattle.std.specs.Int.{bit_at}
-use Rattle.std.proofs.Common.{◌≡◌, ◌≢◌, ℕ, ◌<◌, ◌≤◌, Bool, Option, List, length, get_or, set, arith, ap, sym, ◌∙◌, length-set}
+use Rattle.std.proofs.Common.{◌≡◌, ◌≢◌, ℕ, ◌+◌, ◌*◌, ◌<◌, ◌≤◌, Bool, Option, List, length, get_or, set, arith, ap, sym, ◌∙◌, length-set}
 use Rattle.std.specs.Prelude.{◌/◌, ◌%◌}
 use Rattle.std.proofs.lemmas.List.{get_or-set_same, get_or-set_other}
 use mathlib.Core.Logic.{dite}
@@ -12,7 +12,14 @@ use Rattle.proxy_laws.specs.Maps.{bit, upd}
 use Rattle.proxy_laws.specs.Phases.{note_word, turn_word}
 use Rattle.proxy_laws.proofs.Maps.{upd_case}
 use Rattle.proxy_laws.specs.Limits.{places_max}
-use Rattle.post_core.specs.Words.{WordsShow, life_at, mail_at, note_at, put_at, refs_at, settled_at, taken_at, turn_at}
+use Rattle.post_core.specs.Words.{WordsShow, life_at, mail_at, note_at, place_from, put_at, refs_at, settled_at, taken_at, turn_at, turn_place}
+
+-- a word of a place tells the place
+pub place_is : (first p : ℕ) → place_from first (first + 5 * p) ≡ p
+place_is first p = omega arith
+
+pub turn_place_is : (p : ℕ) → turn_place (turn_at p) ≡ p
+turn_place_is p = omega arith
 
 at_other : (words : List ℕ) (i x k value : ℕ) → k ≢ i → get_or words k 0 ≡ value → get_or (set words i x) k 0 ≡ value
 at_other words i x k value ne is = get_or-set_other words i k x 0 ne ∙ is

@@ -1,5 +1,5 @@
 -- The owner's steps at a place: the views after them, and what each tells.
-use Rattle.std.specs.Prelude.{◌≡◌, ℕ, ◌+◌, ◌-◌, ◌/◌, None, [], ◌∷◌, ◌++◌, length, slice_index, slice_index_or, slice_set}
+use Rattle.std.specs.Prelude.{◌≡◌, ℕ, ◌+◌, None, [], ◌∷◌, ◌++◌, length, slice_index, slice_index_or, slice_set}
 use Rattle.atomic_table.specs.Table.{Me, Step}
 use Rattle.task_ring.specs.Ring.{RingView}
 use Rattle.proxy_laws.specs.declared.actors.Serving.{Serving}
@@ -11,7 +11,7 @@ use Rattle.post_core.specs.declared.views.Entry.{Entry}
 use Rattle.post_core.specs.declared.views.View.{View}
 use Rattle.post_core.specs.Kept.{listed}
 use Rattle.post_core.specs.Views.{owner_of, with_owner}
-use Rattle.post_core.specs.Words.{note_at, put_at}
+use Rattle.post_core.specs.Words.{note_at, place_from, put_at}
 
 module _ {M : Type 0} where
   -- what the owner does at p, as its view has it
@@ -49,10 +49,6 @@ module _ {M : Type 0} where
     serving = slice_set o.serving p (serving_after_look (serving_at p v));
     empties = slice_set o.empties p (slice_index o.empties p + 1);
   })
-
--- the place whose word this is, among those that lie five apart from this one on
-abbrev pub place_from : ℕ → ℕ → ℕ
-place_from first word = (word - first) / 5
 
 module _ {J M : Type 0} where
   -- the owner receives the note of a place

@@ -1,6 +1,6 @@
 -- Which word of a table says what. No number hangs on the table's size.
 use Rattle.std.specs.Int.{bit_at}
-use Rattle.std.specs.Prelude.{◌≡◌, ℕ, ◌+◌, ◌*◌, ◌/◌, ◌%◌, ◌<◌, Bool, List, length, slice_index, Option}
+use Rattle.std.specs.Prelude.{◌≡◌, ℕ, ◌+◌, ◌-◌, ◌*◌, ◌/◌, ◌%◌, ◌<◌, Bool, List, length, slice_index, Option}
 use Rattle.proxy_laws.specs.declared.actors.Actor.{Actor}
 use Rattle.proxy_laws.specs.declared.actors.Note.{Note}
 use Rattle.proxy_laws.specs.declared.records.Mark.{Mark}
@@ -33,6 +33,14 @@ life_at p = 264 + 5 * p
 -- how many jobs of the place are settled. Nothing reads it
 abbrev pub settled_at : ℕ → ℕ
 settled_at p = 265 + 5 * p
+
+-- the place whose turn this word is
+abbrev pub turn_place : ℕ → ℕ
+turn_place word = word - turn_at 0
+
+-- the place whose word this is, among those that lie five apart from this one on
+abbrev pub place_from : ℕ → ℕ → ℕ
+place_from first word = (word - first) / 5
 
 abbrev pub word_count : ℕ → ℕ
 word_count places = 261 + 5 * places

@@ -7,6 +7,7 @@ ghost use Rattle.post_core.specs.Kept.{listed};
 ghost use Rattle.post_core.specs.ServingSteps.{serving_at};
 ghost use Rattle.post_core.specs.Steps.{IsOneTable, took_job};
 ghost use Rattle.post_core.specs.Views.{IsOwnerView, job_taken, owner_of};
+ghost use Rattle.post_core.specs.Words.{place_from, taken_at};
 
 use crate::meant::Meant;
 use crate::rule::{Law, Sizes};
@@ -16,17 +17,13 @@ use atomic_table::{Play, Seat, Shared};
 use std::marker::{Brand, PhantomData};
 use task_ring::Ring;
 
-/// The target and the place of a step. Each call picks them.
+/// The target of a step. Each call picks it.
 pub trait AtTarget {
     ghost target: { ℕ };
-
-    ghost place: { ℕ };
 }
 
 impl AtTarget for Brand {
     ghost target = { 0 };
-
-    ghost place = { 0 };
 }
 
 /// The owner takes a job.
@@ -35,7 +32,7 @@ pub struct TakeJob<P> {
 }
 
 impl<J: Meant, P: AtTarget> Play<Ring<Item<J>>, View<J::Meaning>> for TakeJob<P> {
-    ghost then = { took_job (J.suits P.target) P.place };
+    ghost then = { λ st. took_job (J.suits P.target) (place_from (taken_at 0) st.word) st };
 }
 
 fn start_job_as<J: Meant, P: AtTarget>(
@@ -44,7 +41,7 @@ fn start_job_as<J: Meant, P: AtTarget>(
     place: u32,
 ) -> u64
     requires table { IsOneTable seat.old.table_id shared.now.table_id shared.now.key.places }
-    requires near { (shared.now.key.target ≡ P.target) × (place ≡ P.place) × (place < shared.now.key.places) }
+    requires near { (shared.now.key.target ≡ P.target) × (place < shared.now.key.places) }
     requires owner { IsOwnerView seat.old.me.0 × ((owner_of seat.old.me.0).turn ≡ Some place) }
     requires works { IsTrue (is_working (owner_of seat.old.me.0).state (serving_at place seat.old.me.0)) }
     requires waits { 0 < length (owner_of seat.old.me.0).ring }

@@ -23,16 +23,15 @@ mod send_answers;
 mod send_steps;
 mod sends;
 mod serving;
+mod settle_steps;
 mod settling;
 mod slots;
-mod steps;
 mod taking;
 mod turns;
 mod uses;
 mod views;
 
 pub use ending::{CloseBack, close, discard, unmake};
-pub use joining::{Dealt, Noted, Together};
 pub use laws::{
     add_ref_is_its_event, claim_is_its_event, clone_use_is_its_event, create_is_its_event,
     drop_ref_is_its_event, load_refs_is_its_event, look_note_is_its_event, mark_life_is_its_event,
@@ -42,7 +41,7 @@ pub use laws::{
 };
 pub use making::{Made, make};
 pub use meant::Meant;
-pub use owner::{Emptied, Exec, Got, Noticed, Owner, PlaceJobs, SeenEmpty, Taken};
+pub use owner::{Emptied, Exec, Got, Noticed, Owner, SeenEmpty, Taken};
 pub use owner_laws::{
     add_mail_is_its_event, direct_is_its_event, finish_is_its_event, look_mail_is_its_event,
     look_place_is_its_event, owner_give_place_is_its_event, owner_take_place_is_its_event,
@@ -50,11 +49,5 @@ pub use owner_laws::{
     take_job_is_its_event, take_notice_is_its_event,
 };
 pub use post::{Notice, Owing, PlaceUse, Post, RefPass, SeenNote, SendPass};
-pub use records::StartedJob;
-pub use rule::{Law, Sizes};
 pub use send_answers::{Notified, PutAnswer, RefAnswer};
-pub use slots::Item;
-pub use steps::{At, SettleJob, Settling, settle};
-pub use turns::{GivePlace, TakePlace, give_place, try_place};
 pub use uses::{CreateAnswer, Released};
-pub use views::{Entry, Exchange, Fact, Finding, Held, Kept, OwnerView, PassView, View};

@@ -8,9 +8,8 @@ ghost use Rattle.post_core.specs.declared.slots.Item.{Item};
 ghost use Rattle.post_core.specs.Kept.{listed};
 ghost use Rattle.post_core.specs.Records.{own_mark};
 ghost use Rattle.post_core.specs.SendSteps.{IsNextAt, job_sent, own_marks_max, place_taken};
-ghost use Rattle.post_core.specs.Steps.{all_meant};
+ghost use Rattle.post_core.specs.Steps.{IsOneTable, all_meant};
 ghost use Rattle.post_core.specs.Views.{IsPassView, pass_of};
-ghost use Rattle.post_core.specs.Words.{word_count};
 
 use crate::meant::Meant;
 use crate::rule::{Law, Sizes};
@@ -46,7 +45,7 @@ fn wait_for_turn<R: Wait, J: Meant>(
     seat: &mut Seat<Ring<Item<J>>, View<J::Meaning>>,
     place: u32,
 )
-    requires table { (seat.old.table_id ≡ shared.now.table_id) × (shared.now.table_id.words ≡ word_count shared.now.key.places) }
+    requires table { IsOneTable seat.old.table_id shared.now.table_id shared.now.key.places }
     requires near { place < shared.now.key.places }
     requires referenced { IsPassView seat.old.me.0 × ((pass_of seat.old.me.0).phase ≡ Referenced) }
     requires used { 0 < slice_index (pass_of seat.old.me.0).uses place }
@@ -101,7 +100,7 @@ fn put_in_turn<R: Wait, J: Meant>(
     mark: Mark,
     job: J,
 ) -> Result<u64, J>
-    requires table { (seat.old.table_id ≡ shared.now.table_id) × (shared.now.table_id.words ≡ word_count shared.now.key.places) }
+    requires table { IsOneTable seat.old.table_id shared.now.table_id shared.now.key.places }
     requires near { place < shared.now.key.places }
     requires referenced { IsPassView seat.old.me.0 × ((pass_of seat.old.me.0).phase ≡ Referenced) × ((pass_of seat.old.me.0).ring ≡ []) × (seat.old.me.1 ≡ []) }
     requires used { 0 < slice_index (pass_of seat.old.me.0).uses place }
@@ -131,7 +130,7 @@ pub(crate) fn put_marked<R: Wait, J: Meant>(
     mark: Mark,
     job: J,
 ) -> Result<u64, J>
-    requires table { (seat.old.table_id ≡ shared.now.table_id) × (shared.now.table_id.words ≡ word_count shared.now.key.places) }
+    requires table { IsOneTable seat.old.table_id shared.now.table_id shared.now.key.places }
     requires near { place < shared.now.key.places }
     requires referenced { IsPassView seat.old.me.0 × ((pass_of seat.old.me.0).phase ≡ Referenced) × ((pass_of seat.old.me.0).ring ≡ []) × (seat.old.me.1 ≡ []) }
     requires used { 0 < slice_index (pass_of seat.old.me.0).uses place }

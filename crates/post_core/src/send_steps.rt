@@ -9,17 +9,15 @@ ghost use Rattle.proxy_laws.specs.Phases.{has_turn_at, note_word, phase_after_sw
 ghost use Rattle.post_core.specs.declared.slots.Item.{Item};
 ghost use Rattle.post_core.specs.Kept.{listed};
 ghost use Rattle.post_core.specs.SendSteps.{IsNextAt, added_ref, counted_put, dropped_ref, has_seen_closed, last_held, loaded_refs, meant_item, none_seen, own_marks_max, place_given, place_taken, references_max, sender_gave_place, sender_took_place, swapped_note};
-ghost use Rattle.post_core.specs.Steps.{all_meant};
+ghost use Rattle.post_core.specs.Steps.{IsOneTable, all_meant};
 ghost use Rattle.post_core.specs.Views.{IsPassView, at_phase, job_put, pass_of};
-ghost use Rattle.post_core.specs.Words.{word_count};
+ghost use Rattle.post_core.specs.Words.{note_at, place_from, put_at, turn_place};
 
 use crate::meant::Meant;
 use crate::rule::{Law, Sizes};
 use crate::slots::Item;
-use crate::steps::At;
 use crate::views::View;
 use atomic_table::{Play, Seat, Shared};
-use std::marker::{Brand, PhantomData};
 use task_ring::Ring;
 
 /// A pass looks how many references there are.
@@ -44,39 +42,31 @@ impl<J: Meant> Play<Ring<Item<J>>, View<J::Meaning>> for DropRef {
 }
 
 /// A pass tries to take the turn of a place.
-pub struct SenderTakePlace<P> {
-    marker: PhantomData<P>,
-}
+pub struct SenderTakePlace;
 
-impl<J: Meant, P: At> Play<Ring<Item<J>>, View<J::Meaning>> for SenderTakePlace<P> {
-    ghost then = { sender_took_place J.meaning P.place };
+impl<J: Meant> Play<Ring<Item<J>>, View<J::Meaning>> for SenderTakePlace {
+    ghost then = { λ st. sender_took_place J.meaning (turn_place st.word) st };
 }
 
 /// A pass counts a job as put.
-pub struct CountPut<P> {
-    marker: PhantomData<P>,
-}
+pub struct CountPut;
 
-impl<J: Meant, P: At> Play<Ring<Item<J>>, View<J::Meaning>> for CountPut<P> {
-    ghost then = { counted_put J.meaning P.place };
+impl<J: Meant> Play<Ring<Item<J>>, View<J::Meaning>> for CountPut {
+    ghost then = { λ st. counted_put J.meaning (place_from (put_at 0) st.word) st };
 }
 
 /// A pass gives the turn of a place back.
-pub struct SenderGivePlace<P> {
-    marker: PhantomData<P>,
-}
+pub struct SenderGivePlace;
 
-impl<J: Meant, P: At> Play<Ring<Item<J>>, View<J::Meaning>> for SenderGivePlace<P> {
-    ghost then = { sender_gave_place P.place };
+impl<J: Meant> Play<Ring<Item<J>>, View<J::Meaning>> for SenderGivePlace {
+    ghost then = { λ st. sender_gave_place (turn_place st.word) st };
 }
 
 /// A pass swaps the note of a place.
-pub struct SwapNote<P> {
-    marker: PhantomData<P>,
-}
+pub struct SwapNote;
 
-impl<J: Meant, P: At> Play<Ring<Item<J>>, View<J::Meaning>> for SwapNote<P> {
-    ghost then = { swapped_note P.place };
+impl<J: Meant> Play<Ring<Item<J>>, View<J::Meaning>> for SwapNote {
+    ghost then = { λ st. swapped_note (place_from (note_at 0) st.word) st };
 }
 
 // How many references there are.
@@ -84,7 +74,7 @@ pub(crate) fn load_refs<J: Meant>(
     shared: &Shared<Ring<Item<J>>, View<J::Meaning>, Sizes, Law<J>>,
     seat: &mut Seat<Ring<Item<J>>, View<J::Meaning>>,
 ) -> u64
-    requires table { (seat.old.table_id ≡ shared.now.table_id) × (shared.now.table_id.words ≡ word_count shared.now.key.places) }
+    requires table { IsOneTable seat.old.table_id shared.now.table_id shared.now.key.places }
     requires idle { IsPassView seat.old.me.0 × ((pass_of seat.old.me.0).phase ≡ Idle) }
     ensures seat { (seat.new.table_id ≡ seat.old.table_id) × (seat.new.id ≡ seat.old.id) }
     ensures few { result ≤ references_max }
@@ -100,7 +90,7 @@ pub(crate) fn add_ref<J: Meant>(
     seat: &mut Seat<Ring<Item<J>>, View<J::Meaning>>,
     seen: u64,
 ) -> u64
-    requires table { (seat.old.table_id ≡ shared.now.table_id) × (shared.now.table_id.words ≡ word_count shared.now.key.places) }
+    requires table { IsOneTable seat.old.table_id shared.now.table_id shared.now.key.places }
     requires idle { IsPassView seat.old.me.0 × ((pass_of seat.old.me.0).phase ≡ Idle) }
     requires seen { (1 ≤ seen) × (seen ≤ references_max) }
     ensures seat { (seat.new.table_id ≡ seat.old.table_id) × (seat.new.id ≡ seat.old.id) }
@@ -117,28 +107,12 @@ pub(crate) fn drop_ref<J: Meant>(
     shared: &Shared<Ring<Item<J>>, View<J::Meaning>, Sizes, Law<J>>,
     seat: &mut Seat<Ring<Item<J>>, View<J::Meaning>>,
 )
-    requires table { (seat.old.table_id ≡ shared.now.table_id) × (shared.now.table_id.words ≡ word_count shared.now.key.places) }
+    requires table { IsOneTable seat.old.table_id shared.now.table_id shared.now.key.places }
     requires referenced { IsPassView seat.old.me.0 × ((pass_of seat.old.me.0).phase ≡ Referenced) }
     ensures seat { (seat.new.table_id ≡ seat.old.table_id) × (seat.new.id ≡ seat.old.id) }
     ensures dropped { seat.new.me ≡ (at_phase Idle seat.old.me.0, seat.old.me.1) }
 {
     shared.fetch_sub::<DropRef>(seat, 0, 1);
-}
-
-fn try_turn_as<J: Meant, P: At>(
-    shared: &Shared<Ring<Item<J>>, View<J::Meaning>, Sizes, Law<J>>,
-    seat: &mut Seat<Ring<Item<J>>, View<J::Meaning>>,
-    place: u32,
-) -> u64
-    requires table { (seat.old.table_id ≡ shared.now.table_id) × (shared.now.table_id.words ≡ word_count shared.now.key.places) }
-    requires near { (place ≡ P.place) × (place < shared.now.key.places) }
-    requires referenced { IsPassView seat.old.me.0 × ((pass_of seat.old.me.0).phase ≡ Referenced) }
-    requires used { 0 < slice_index (pass_of seat.old.me.0).uses place }
-    ensures seat { (seat.new.table_id ≡ seat.old.table_id) × (seat.new.id ≡ seat.old.id) }
-    ensures hit { result ≡ 0 → (ring : RingView (Item J)) × (seat.new.me ≡ (place_taken place (all_meant J.meaning ring.items) seat.old.me.0, (place, ring) ∷ seat.old.me.1)) }
-    ensures miss { result ≢ 0 → seat.new.me ≡ seat.old.me }
-{
-    shared.compare_exchange::<SenderTakePlace<P>>(seat, 1 + place as usize, 0, 1)
 }
 
 // Tries to take the turn of a place, with its ring, and answers what its word held.
@@ -147,7 +121,7 @@ pub(crate) fn try_turn<J: Meant>(
     seat: &mut Seat<Ring<Item<J>>, View<J::Meaning>>,
     place: u32,
 ) -> u64
-    requires table { (seat.old.table_id ≡ shared.now.table_id) × (shared.now.table_id.words ≡ word_count shared.now.key.places) }
+    requires table { IsOneTable seat.old.table_id shared.now.table_id shared.now.key.places }
     requires near { place < shared.now.key.places }
     requires referenced { IsPassView seat.old.me.0 × ((pass_of seat.old.me.0).phase ≡ Referenced) }
     requires used { 0 < slice_index (pass_of seat.old.me.0).uses place }
@@ -155,24 +129,7 @@ pub(crate) fn try_turn<J: Meant>(
     ensures hit { result ≡ 0 → (ring : RingView (Item J)) × (seat.new.me ≡ (place_taken place (all_meant J.meaning ring.items) seat.old.me.0, (place, ring) ∷ seat.old.me.1)) }
     ensures miss { result ≢ 0 → seat.new.me ≡ seat.old.me }
 {
-    try_turn_as::<J, Brand>(shared, seat, place)
-}
-
-fn count_put_as<J: Meant, P: At>(
-    shared: &Shared<Ring<Item<J>>, View<J::Meaning>, Sizes, Law<J>>,
-    seat: &mut Seat<Ring<Item<J>>, View<J::Meaning>>,
-    place: u32,
-) -> u64
-    requires table { (seat.old.table_id ≡ shared.now.table_id) × (shared.now.table_id.words ≡ word_count shared.now.key.places) }
-    requires near { (place ≡ P.place) × (place < shared.now.key.places) }
-    requires holding { IsPassView seat.old.me.0 × ((pass_of seat.old.me.0).phase ≡ Holding place) }
-    requires room { length (listed (pass_of seat.old.me.0).own place) < own_marks_max }
-    requires job { (item : Item J) × (last_held seat.old.me.1 ≡ Some item) × (item.mark.sender ≡ (pass_of seat.old.me.0).number) × (item.mark.seq ≡ length (listed (pass_of seat.old.me.0).own place)) × J.suits shared.now.key.target place item.mark (J.meaning item.job) }
-    ensures seat { (seat.new.table_id ≡ seat.old.table_id) × (seat.new.id ≡ seat.old.id) }
-    ensures nth { IsNextAt place result seat.old.me.0 }
-    ensures counted { (item : Item J) → last_held seat.old.me.1 ≡ Some item → seat.new.me ≡ (job_put place result (meant_item J.meaning item) seat.old.me.0, seat.old.me.1) }
-{
-    shared.fetch_add::<CountPut<P>>(seat, 261 + 5 * place as usize, 1)
+    shared.compare_exchange::<SenderTakePlace>(seat, 1 + place as usize, 0, 1)
 }
 
 // Counts the job that was pushed last into the ring of a place as put, and answers its number there.
@@ -181,7 +138,7 @@ pub(crate) fn count_put<J: Meant>(
     seat: &mut Seat<Ring<Item<J>>, View<J::Meaning>>,
     place: u32,
 ) -> u64
-    requires table { (seat.old.table_id ≡ shared.now.table_id) × (shared.now.table_id.words ≡ word_count shared.now.key.places) }
+    requires table { IsOneTable seat.old.table_id shared.now.table_id shared.now.key.places }
     requires near { place < shared.now.key.places }
     requires holding { IsPassView seat.old.me.0 × ((pass_of seat.old.me.0).phase ≡ Holding place) }
     requires room { length (listed (pass_of seat.old.me.0).own place) < own_marks_max }
@@ -190,22 +147,7 @@ pub(crate) fn count_put<J: Meant>(
     ensures nth { IsNextAt place result seat.old.me.0 }
     ensures counted { (item : Item J) → last_held seat.old.me.1 ≡ Some item → seat.new.me ≡ (job_put place result (meant_item J.meaning item) seat.old.me.0, seat.old.me.1) }
 {
-    count_put_as::<J, Brand>(shared, seat, place)
-}
-
-fn give_turn_as<J: Meant, P: At>(
-    shared: &Shared<Ring<Item<J>>, View<J::Meaning>, Sizes, Law<J>>,
-    seat: &mut Seat<Ring<Item<J>>, View<J::Meaning>>,
-    place: u32,
-)
-    requires table { (seat.old.table_id ≡ shared.now.table_id) × (shared.now.table_id.words ≡ word_count shared.now.key.places) }
-    requires near { (place ≡ P.place) × (place < shared.now.key.places) }
-    requires turn { IsPassView seat.old.me.0 × IsTrue (has_turn_at place (pass_of seat.old.me.0).phase) }
-    requires holds { (ring : RingView (Item J)) × (seat.old.me.1 ≡ (place, ring) ∷ rest seat.old.me.1) × (all_meant J.meaning ring.items ≡ (pass_of seat.old.me.0).ring) }
-    ensures seat { (seat.new.table_id ≡ seat.old.table_id) × (seat.new.id ≡ seat.old.id) }
-    ensures given { seat.new.me ≡ (place_given place seat.old.me.0, rest seat.old.me.1) }
-{
-    shared.store::<SenderGivePlace<P>>(seat, 1 + place as usize, 0);
+    shared.fetch_add::<CountPut>(seat, 261 + 5 * place as usize, 1)
 }
 
 // Gives the turn of a place back, with the ring that its slot holds.
@@ -214,28 +156,14 @@ pub(crate) fn give_turn<J: Meant>(
     seat: &mut Seat<Ring<Item<J>>, View<J::Meaning>>,
     place: u32,
 )
-    requires table { (seat.old.table_id ≡ shared.now.table_id) × (shared.now.table_id.words ≡ word_count shared.now.key.places) }
+    requires table { IsOneTable seat.old.table_id shared.now.table_id shared.now.key.places }
     requires near { place < shared.now.key.places }
     requires turn { IsPassView seat.old.me.0 × IsTrue (has_turn_at place (pass_of seat.old.me.0).phase) }
     requires holds { (ring : RingView (Item J)) × (seat.old.me.1 ≡ (place, ring) ∷ rest seat.old.me.1) × (all_meant J.meaning ring.items ≡ (pass_of seat.old.me.0).ring) }
     ensures seat { (seat.new.table_id ≡ seat.old.table_id) × (seat.new.id ≡ seat.old.id) }
     ensures given { seat.new.me ≡ (place_given place seat.old.me.0, rest seat.old.me.1) }
 {
-    give_turn_as::<J, Brand>(shared, seat, place);
-}
-
-fn swap_note_as<J: Meant, P: At>(
-    shared: &Shared<Ring<Item<J>>, View<J::Meaning>, Sizes, Law<J>>,
-    seat: &mut Seat<Ring<Item<J>>, View<J::Meaning>>,
-    place: u32,
-) -> u64
-    requires table { (seat.old.table_id ≡ shared.now.table_id) × (shared.now.table_id.words ≡ word_count shared.now.key.places) }
-    requires near { (place ≡ P.place) × (place < shared.now.key.places) }
-    requires owes { IsPassView seat.old.me.0 × ((pass_of seat.old.me.0).phase ≡ Owing place) }
-    ensures seat { (seat.new.table_id ≡ seat.old.table_id) × (seat.new.id ≡ seat.old.id) }
-    ensures found { (note : Note) × (result ≡ note_word note) × (seat.new.me ≡ (at_phase (phase_after_swap place note) seat.old.me.0, seat.old.me.1)) }
-{
-    shared.swap::<SwapNote<P>>(seat, 263 + 5 * place as usize, 1)
+    shared.store::<SenderGivePlace>(seat, 1 + place as usize, 0);
 }
 
 // Swaps the note of a place for pending, and answers what it was.
@@ -244,11 +172,11 @@ pub(crate) fn swap_note<J: Meant>(
     seat: &mut Seat<Ring<Item<J>>, View<J::Meaning>>,
     place: u32,
 ) -> u64
-    requires table { (seat.old.table_id ≡ shared.now.table_id) × (shared.now.table_id.words ≡ word_count shared.now.key.places) }
+    requires table { IsOneTable seat.old.table_id shared.now.table_id shared.now.key.places }
     requires near { place < shared.now.key.places }
     requires owes { IsPassView seat.old.me.0 × ((pass_of seat.old.me.0).phase ≡ Owing place) }
     ensures seat { (seat.new.table_id ≡ seat.old.table_id) × (seat.new.id ≡ seat.old.id) }
     ensures found { (note : Note) × (result ≡ note_word note) × (seat.new.me ≡ (at_phase (phase_after_swap place note) seat.old.me.0, seat.old.me.1)) }
 {
-    swap_note_as::<J, Brand>(shared, seat, place)
+    shared.swap::<SwapNote>(seat, 263 + 5 * place as usize, 1)
 }

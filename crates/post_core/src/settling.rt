@@ -12,7 +12,7 @@ ghost use Rattle.post_core.specs.Views.{job_settled, noted, owner_of};
 use crate::meant::Meant;
 use crate::owner::{Exec, Owner, PlaceJobs};
 use crate::post::{Post, SeenNote};
-use crate::steps::settle;
+use crate::settle_steps::settle;
 use proxy_laws::FateMark;
 
 /// Keeps the fate of a job that was started at the place.

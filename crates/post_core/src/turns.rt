@@ -6,26 +6,22 @@ ghost use Rattle.task_ring.specs.Ring.{RingView};
 ghost use Rattle.proxy_laws.specs.declared.actors.Serving.TheVariants.{Away};
 ghost use Rattle.proxy_laws.specs.Phases.{is_working};
 ghost use Rattle.post_core.specs.declared.slots.Item.{Item};
-ghost use Rattle.post_core.specs.Steps.{all_meant, gave_place, took_place};
+ghost use Rattle.post_core.specs.Steps.{IsOneTable, all_meant, gave_place, took_place};
 ghost use Rattle.post_core.specs.Views.{IsOwnerView, owner_of, turn_given, turn_taken};
-ghost use Rattle.post_core.specs.Words.{word_count};
+ghost use Rattle.post_core.specs.Words.{turn_place};
 
 use crate::meant::Meant;
 use crate::rule::{Law, Sizes};
 use crate::slots::Item;
-use crate::steps::At;
 use crate::views::View;
 use atomic_table::{Play, Seat, Shared};
-use std::marker::{Brand, PhantomData};
 use task_ring::Ring;
 
 /// The owner tries to take the turn of a place.
-pub struct TakePlace<P> {
-    marker: PhantomData<P>,
-}
+pub struct TakePlace;
 
-impl<J: Meant, P: At> Play<Ring<Item<J>>, View<J::Meaning>> for TakePlace<P> {
-    ghost then = { took_place J.meaning P.place };
+impl<J: Meant> Play<Ring<Item<J>>, View<J::Meaning>> for TakePlace {
+    ghost then = { λ st. took_place J.meaning (turn_place st.word) st };
 }
 
 /// The owner gives the turn back.
@@ -35,29 +31,13 @@ impl<J: Meant> Play<Ring<Item<J>>, View<J::Meaning>> for GivePlace {
     ghost then = { gave_place };
 }
 
-fn try_place_as<J: Meant, P: At>(
-    shared: &Shared<Ring<Item<J>>, View<J::Meaning>, Sizes, Law<J>>,
-    seat: &mut Seat<Ring<Item<J>>, View<J::Meaning>>,
-    place: u32,
-) -> u64
-    requires table { (seat.old.table_id ≡ shared.now.table_id) × (shared.now.table_id.words ≡ word_count shared.now.key.places) }
-    requires near { (place ≡ P.place) × (place < shared.now.key.places) }
-    requires owner { IsOwnerView seat.old.me.0 × ((owner_of seat.old.me.0).turn ≡ None) }
-    requires works { IsTrue (is_working (owner_of seat.old.me.0).state (slice_index_or (owner_of seat.old.me.0).serving place Away)) }
-    ensures seat { (seat.new.table_id ≡ seat.old.table_id) × (seat.new.id ≡ seat.old.id) }
-    ensures hit { result ≡ 0 → (ring : RingView (Item J)) × (seat.new.me ≡ (turn_taken place (all_meant J.meaning ring.items) seat.old.me.0, (place, ring) ∷ seat.old.me.1)) }
-    ensures miss { result ≢ 0 → seat.new.me ≡ seat.old.me }
-{
-    shared.compare_exchange::<TakePlace<P>>(seat, 1 + place as usize, 0, 1)
-}
-
 /// Tries to take the turn of a place, with its ring, and answers what its word held.
-pub fn try_place<J: Meant>(
+pub(crate) fn try_place<J: Meant>(
     shared: &Shared<Ring<Item<J>>, View<J::Meaning>, Sizes, Law<J>>,
     seat: &mut Seat<Ring<Item<J>>, View<J::Meaning>>,
     place: u32,
 ) -> u64
-    requires table { (seat.old.table_id ≡ shared.now.table_id) × (shared.now.table_id.words ≡ word_count shared.now.key.places) }
+    requires table { IsOneTable seat.old.table_id shared.now.table_id shared.now.key.places }
     requires near { place < shared.now.key.places }
     requires owner { IsOwnerView seat.old.me.0 × ((owner_of seat.old.me.0).turn ≡ None) }
     requires works { IsTrue (is_working (owner_of seat.old.me.0).state (slice_index_or (owner_of seat.old.me.0).serving place Away)) }
@@ -65,16 +45,16 @@ pub fn try_place<J: Meant>(
     ensures hit { result ≡ 0 → (ring : RingView (Item J)) × (seat.new.me ≡ (turn_taken place (all_meant J.meaning ring.items) seat.old.me.0, (place, ring) ∷ seat.old.me.1)) }
     ensures miss { result ≢ 0 → seat.new.me ≡ seat.old.me }
 {
-    try_place_as::<J, Brand>(shared, seat, place)
+    shared.compare_exchange::<TakePlace>(seat, 1 + place as usize, 0, 1)
 }
 
 /// Gives the turn of a place back, with the ring that its slot holds.
-pub fn give_place<J: Meant>(
+pub(crate) fn give_place<J: Meant>(
     shared: &Shared<Ring<Item<J>>, View<J::Meaning>, Sizes, Law<J>>,
     seat: &mut Seat<Ring<Item<J>>, View<J::Meaning>>,
     place: u32,
 )
-    requires table { (seat.old.table_id ≡ shared.now.table_id) × (shared.now.table_id.words ≡ word_count shared.now.key.places) }
+    requires table { IsOneTable seat.old.table_id shared.now.table_id shared.now.key.places }
     requires near { place < shared.now.key.places }
     requires owner { IsOwnerView seat.old.me.0 × ((owner_of seat.old.me.0).turn ≡ Some place) }
     requires holds { (ring : RingView (Item J)) × (seat.old.me.1 ≡ (place, ring) ∷ rest seat.old.me.1) × (all_meant J.meaning ring.items ≡ (owner_of seat.old.me.0).ring) }

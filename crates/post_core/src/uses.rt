@@ -7,8 +7,8 @@ ghost use Rattle.post_core.specs.LifeParts.{IfFull, IfMade, IsCreated, IsFoundTo
 ghost use Rattle.post_core.specs.LifeSteps.{IsCulled, all_found, place_culled, use_cloned};
 ghost use Rattle.post_core.specs.Rule.{clones_max};
 ghost use Rattle.post_core.specs.SendParts.{IsPassOf, pass_view};
+ghost use Rattle.post_core.specs.Steps.{IsOneTable};
 ghost use Rattle.post_core.specs.Views.{IsPassView, pass_of, place_created};
-ghost use Rattle.post_core.specs.Words.{word_count};
 
 use crate::lives::{add_use, drop_use, look_note, mark_life, try_claim, try_create};
 use crate::meant::Meant;
@@ -59,7 +59,7 @@ fn end_look<J: Meant>(
     seat: &mut Seat<Ring<Item<J>>, View<J::Meaning>>,
     place: u32,
 ) -> bool
-    requires table { (seat.old.table_id ≡ shared.now.table_id) × (shared.now.table_id.words ≡ word_count shared.now.key.places) }
+    requires table { IsOneTable seat.old.table_id shared.now.table_id shared.now.key.places }
     requires near { place < shared.now.key.places }
     requires looks { IsPassView seat.old.me.0 × ((pass_of seat.old.me.0).look ≡ At place) }
     ensures seat { (seat.new.table_id ≡ seat.old.table_id) × (seat.new.id ≡ seat.old.id) }
@@ -79,7 +79,7 @@ fn release_use<J: Meant>(
     seat: &mut Seat<Ring<Item<J>>, View<J::Meaning>>,
     place: u32,
 ) -> Released
-    requires table { (seat.old.table_id ≡ shared.now.table_id) × (shared.now.table_id.words ≡ word_count shared.now.key.places) }
+    requires table { IsOneTable seat.old.table_id shared.now.table_id shared.now.key.places }
     requires near { place < shared.now.key.places }
     requires idle { IsPassView seat.old.me.0 × ((pass_of seat.old.me.0).phase ≡ Idle) }
     requires used { 0 < slice_index (pass_of seat.old.me.0).uses place }
@@ -103,7 +103,7 @@ fn cull<J: Meant>(
     seat: &mut Seat<Ring<Item<J>>, View<J::Meaning>>,
     place: u32,
 )
-    requires table { (seat.old.table_id ≡ shared.now.table_id) × (shared.now.table_id.words ≡ word_count shared.now.key.places) }
+    requires table { IsOneTable seat.old.table_id shared.now.table_id shared.now.key.places }
     requires near { place < shared.now.key.places }
     requires nowhere { IsPassView seat.old.me.0 × ((pass_of seat.old.me.0).look ≡ Nowhere) }
     ensures seat { (seat.new.table_id ≡ seat.old.table_id) × (seat.new.id ≡ seat.old.id) }
@@ -120,7 +120,7 @@ fn cull_all<J: Meant>(
     seat: &mut Seat<Ring<Item<J>>, View<J::Meaning>>,
     places: u32,
 )
-    requires table { (seat.old.table_id ≡ shared.now.table_id) × (shared.now.table_id.words ≡ word_count shared.now.key.places) }
+    requires table { IsOneTable seat.old.table_id shared.now.table_id shared.now.key.places }
     requires places { places ≡ shared.now.key.places }
     requires nowhere { IsPassView seat.old.me.0 × ((pass_of seat.old.me.0).look ≡ Nowhere) }
     ensures seat { (seat.new.table_id ≡ seat.old.table_id) × (seat.new.id ≡ seat.old.id) × (seat.new.me.1 ≡ seat.old.me.1) }
@@ -137,7 +137,7 @@ fn create_first<J: Meant>(
     seat: &mut Seat<Ring<Item<J>>, View<J::Meaning>>,
     places: u32,
 ) -> Option<u32>
-    requires table { (seat.old.table_id ≡ shared.now.table_id) × (shared.now.table_id.words ≡ word_count shared.now.key.places) }
+    requires table { IsOneTable seat.old.table_id shared.now.table_id shared.now.key.places }
     requires places { places ≡ shared.now.key.places }
     requires idle { IsPassView seat.old.me.0 }
     ensures seat { (seat.new.table_id ≡ seat.old.table_id) × (seat.new.id ≡ seat.old.id) }

@@ -1,13 +1,13 @@
-//! The steps of a table, each of which is one event of its world.
+//! The step by which the owner settles a job.
 
 ghost use Rattle.std.specs.Prelude.{◌≡◌, ℕ, ◌<◌, IsTrue, None, Some, [], length, slice_get, slice_index_or, drop};
 ghost use Rattle.proxy_laws.specs.declared.records.FateMark.{FateMark};
 ghost use Rattle.proxy_laws.specs.declared.records.FateMark.TheVariants.{Finished};
 ghost use Rattle.proxy_laws.specs.Settling.{settler};
 ghost use Rattle.post_core.specs.Kept.{listed};
-ghost use Rattle.post_core.specs.Steps.{IsActiveHere, settled_job};
+ghost use Rattle.post_core.specs.Steps.{IsActiveHere, IsOneTable, settled_job};
 ghost use Rattle.post_core.specs.Views.{IsOwnerView, job_settled, noted, owner_of};
-ghost use Rattle.post_core.specs.Words.{word_count};
+ghost use Rattle.post_core.specs.Words.{place_from, settled_at};
 
 use crate::joining::Noted;
 use crate::meant::Meant;
@@ -19,27 +19,14 @@ use proxy_laws::FateMark;
 use std::marker::{Brand, PhantomData};
 use task_ring::Ring;
 
-/// The place of a step. Each call picks it.
-pub trait At {
-    ghost place: { ℕ };
-}
-
-impl At for Brand {
-    ghost place = { 0 };
-}
-
-/// The job that a step settles. Each call picks it.
+/// The number of the job that a step settles at its place, and its fate. Each call picks them.
 pub trait Settling {
-    ghost place: { ℕ };
-
     ghost number: { ℕ };
 
     ghost fate: { FateMark };
 }
 
 impl Settling for Brand {
-    ghost place = { 0 };
-
     ghost number = { 0 };
 
     ghost fate = { Finished };
@@ -51,7 +38,7 @@ pub struct SettleJob<P> {
 }
 
 impl<J: Meant, P: Settling> Play<Ring<Item<J>>, View<J::Meaning>> for SettleJob<P> {
-    ghost then = { settled_job P.place P.number P.fate };
+    ghost then = { λ st. settled_job (place_from (settled_at 0) st.word) P.number P.fate st };
 }
 
 fn settle_as<J: Meant, P: Settling>(
@@ -61,8 +48,8 @@ fn settle_as<J: Meant, P: Settling>(
     nth: u64,
     fate: FateMark,
 ) -> Seat<Ring<Item<J>>, View<J::Meaning>>
-    requires table { (seat.old.table_id ≡ shared.now.table_id) × (shared.now.table_id.words ≡ word_count shared.now.key.places) }
-    requires near { (place ≡ P.place) × (nth ≡ P.number) × (fate ≡ P.fate) × (place < shared.now.key.places) }
+    requires table { IsOneTable seat.old.table_id shared.now.table_id shared.now.key.places }
+    requires near { (nth ≡ P.number) × (fate ≡ P.fate) × (place < shared.now.key.places) }
     requires owner { IsOwnerView seat.old.me.0 × ((owner_of seat.old.me.0).state ≡ settler fate) }
     requires active { IsActiveHere (listed (owner_of seat.old.me.0).jobs place) nth }
     ensures seat { (seat.new.table_id ≡ seat.old.table_id) × (seat.new.id ≡ seat.old.id) × (result.table_id ≡ seat.old.table_id) }
@@ -74,14 +61,14 @@ fn settle_as<J: Meant, P: Settling>(
 }
 
 /// Settles a job that is active, and makes a note that has seen it.
-pub fn settle<J: Meant>(
+pub(crate) fn settle<J: Meant>(
     shared: &Shared<Ring<Item<J>>, View<J::Meaning>, Sizes, Law<J>>,
     seat: &mut Seat<Ring<Item<J>>, View<J::Meaning>>,
     place: u32,
     nth: u64,
     fate: FateMark,
 ) -> Seat<Ring<Item<J>>, View<J::Meaning>>
-    requires table { (seat.old.table_id ≡ shared.now.table_id) × (shared.now.table_id.words ≡ word_count shared.now.key.places) }
+    requires table { IsOneTable seat.old.table_id shared.now.table_id shared.now.key.places }
     requires near { place < shared.now.key.places }
     requires owner { IsOwnerView seat.old.me.0 × ((owner_of seat.old.me.0).state ≡ settler fate) }
     requires active { IsActiveHere (listed (owner_of seat.old.me.0).jobs place) nth }

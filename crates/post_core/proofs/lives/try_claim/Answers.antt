@@ -1,0 +1,12 @@
+use Rattle.std.proofs.Common.{arith}
+use Rattle.post_core.proofs.LifeAllowed.{claim_allowed}
+use Rattle.post_core.proofs.Words.{place_is}
+use Rattle.post_core.proofs.lives.try_claim.Goals as goal
+
+pub compare_exchange-requires : goal.compare_exchange-requires
+compare_exchange-requires g c =
+    let key = c.args.shared.now.key in let me = c.args.seat.now.me in (
+      c.requires.table.0,
+      (let a = c.requires.table.1 in let b = c.requires.near in omega arith),
+      rw (place_is 264 c.args.place) (claim_allowed g.J.Meant.meaning (g.J.Meant.suits key.target) key.senders key.places c.args.shared.now.table_id.slots c.args.seat.now.id me.0 me.1 c.args.place c.requires.near c.requires.nowhere.0 c.requires.nowhere.1),
+    )

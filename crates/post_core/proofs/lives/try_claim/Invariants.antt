@@ -1,4 +1,0 @@
-use Rattle.post_core.proofs.lives.try_claim.Given as goal
-
-abbrev pub ghosts-try_claim_as : goal.ghosts-try_claim_as
-ghosts-try_claim_as g a = record { place = a.place }
