@@ -13,6 +13,7 @@ use Rattle.atomic_table.proofs.Lists.{at_map}
 use Rattle.task_ring.specs.Ring.{RingView}
 use Rattle.proxy_laws.specs.declared.actors.Actor.{Actor}
 use Rattle.proxy_laws.specs.declared.actors.Actor.TheVariants as actor
+use Rattle.proxy_laws.specs.declared.actors.Phase.{Phase}
 use Rattle.proxy_laws.specs.declared.actors.Phase.TheVariants as phase
 use Rattle.proxy_laws.specs.declared.records.Job.{Job}
 use Rattle.proxy_laws.specs.declared.records.JobRecord.{JobRecord}
@@ -48,6 +49,10 @@ use Rattle.post_core.specs.Making.{AreDealt, dealing_view, fresh_view}
 use Rattle.post_core.specs.Views.{fresh_owner, fresh_pass, owner_of, pass_of}
 use Rattle.post_core.proofs.Ends.{AreOwns, place_record_is, records_of_held}
 use Rattle.post_core.proofs.Folded.{owner_stays, pass_there, seen_there}
+
+-- the sender of a pass is that of its view
+pub of_its_sender : {M : Type 0} {s : ℕ} {ph : Phase} {own : List (List OwnMark)} {v : View M} → IsPass s ph own v → IsPass (pass_of v).number ph own v
+of_its_sender o = record { view = o.view; number = refl; phase_is = o.phase_is; own_is = o.own_is; no_ring = o.no_ring; no_look = o.no_look }
 
 module _ {X : Type 0} where
   pub any_at : (test : X → Bool) (xs : List X) → IsTrue (list_any test xs) → (k : ℕ) × (x : X) × (get_elem? xs k ≡ some x) × IsTrue (test x)
@@ -143,11 +148,11 @@ module _ {M : Type 0} where
           absurd (let b : has_turn_at p phase.Idle ≡ true = subst (λ ph. IsTrue (has_turn_at p ph)) cover.idle has in cc)
 
     -- nothing waits, since the owner has found that, or since no pass keeps a mark
-    pub drained_done : o.state ≡ owner.Closed → ((p : ℕ) → get_or o.serving p serving.Away ≡ serving.Away) → ((word : ℕ) → word < 4 → get_or o.clear word false ≡ true) → (k : ℕ) → k < places → length (w.sent k) ≤ length (w.jobs k)
-    drained_done state away clear k near =
+    pub drained_done : ((p : ℕ) → get_or o.serving p serving.Away ≡ serving.Away) → ((word : ℕ) → word < 4 → get_or o.clear word false ≡ true) → (k : ℕ) → k < places → length (w.sent k) ≤ length (w.jobs k)
+    drained_done away clear k near =
         let of = (fits.owner o c.owner).1 in
         let inside : k < w.places = (let e = r.sized.places_are in omega arith) in
-        nothing_waits_once_emptied w k r.sound (of.does.state_is ∙ state) (λ p at. of.does.serving_is p at ∙ away p) (λ p at. (of.clears.clear (p / 64) (clear (p / 64) (let e = r.sized.places_are in let few = r.sized.few_places in omega arith))).1 p refl) inside
+        nothing_waits_once_emptied w k r.sound (of.clears.clear 0 (clear 0 (omega arith))).0 (λ p at. of.does.serving_is p at ∙ away p) (λ p at. (of.clears.clear (p / 64) (clear (p / 64) (let e = r.sized.places_are in let few = r.sized.few_places in omega arith))).1 p refl) inside
 
     pub fresh_done : (n : ℕ) → ((t : ℕ) → t < senders → (m : ℕ) × (get_elem? v.passes m ≡ some (fresh_pass n t))) → (k : ℕ) → k < places → length (w.sent k) ≤ length (w.jobs k)
     fresh_done n fresh k near = of (r.entries k) refl where
@@ -196,7 +201,10 @@ module _ {M : Type 0} where
     }
 
   -- of any type of passes A
-  module _ {A : Type 0} (view : A → View M) (own : A → List (List OwnMark)) (sender : A → ℕ) (is_pass : (x : A) → IsPass (sender x) phase.Idle (own x) (view x)) (xs : List A) (ov : View M) (kept_jobs : List (List StartedJob)) (taken : List ℕ) (e : IsEmptied kept_jobs taken ov) (senders : ℕ) where
+  module _ {A : Type 0} (view : A → View M) (own : A → List (List OwnMark)) (is_pass : (x : A) → IsPass (pass_of (view x)).number phase.Idle (own x) (view x)) (xs : List A) (ov : View M) (kept_jobs : List (List StartedJob)) (taken : List ℕ) (e : IsEmptied kept_jobs taken ov) (senders : ℕ) where
+    abbrev sender : A → ℕ
+    sender x = (pass_of (view x)).number
+
     abbrev v : View M
     v = all_joined ov (map view xs)
 
@@ -234,7 +242,7 @@ module _ {M : Type 0} where
       of_owner = (end.fits.owner o owner_is).1
 
       drained : (p : ℕ) → p < world.places → length (world.sent p) ≤ length (world.jobs p)
-      drained p at = nothing_waits_once_emptied world p end.sound (of_owner.does.state_is ∙ e.state) (λ q near. of_owner.does.serving_is q near ∙ e.away q) (λ q near. (of_owner.clears.clear (q / 64) (e.clear (q / 64) (let few = end.few_places in omega arith))).1 q refl) at
+      drained p at = nothing_waits_once_emptied world p end.sound (of_owner.clears.clear 0 (e.clear 0 (omega arith))).0 (λ q near. of_owner.does.serving_is q near ∙ e.away q) (λ q near. (of_owner.clears.clear (q / 64) (e.clear (q / 64) (let few = end.few_places in omega arith))).1 q refl) at
 
       module _ (p : ℕ) (near : p < places) where
         inside : p < world.places
@@ -345,10 +353,10 @@ module _ {M : Type 0} where
         }
 
   -- of passes as they are made
-  module _ {A : Type 0} (view : A → View M) (sender : A → ℕ) (xs : List A) (senders places : ℕ) (ov : View M) (first : ov ≡ dealing_view places senders 0) (dealt : AreDealt places (map sender xs) (map view xs) senders) where
+  module _ {A : Type 0} (view : A → View M) (xs : List A) (senders places : ℕ) (ov : View M) (first : ov ≡ dealing_view places senders 0) (dealt : AreDealt places (map view xs) senders) where
     pub fresh_there : (t : ℕ) → t < senders → (m : ℕ) × (get_elem? (all_joined ov (map view xs)).passes m ≡ some (fresh_pass places t))
     fresh_there t near = pass_there ov (fresh_view places t) (map view xs) t (fresh_pass places t)
-        (at_get (map view xs) t (fresh_view places t) (let a = dealt.count in omega (arith, length-map xs sender, length-map xs view)) ∙ ap some (dealt.fresh t (fresh_view places t) near)) refl
+        (at_get (map view xs) t (fresh_view places t) (let a = dealt.count in omega arith) ∙ ap some (dealt.fresh t (fresh_view places t) near)) refl
 
     pub fresh_complete : IsComplete senders (all_joined ov (map view xs)) (fresh_owner places)
     fresh_complete = record {

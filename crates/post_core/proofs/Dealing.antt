@@ -48,9 +48,8 @@ one_more xs x d n k P wide each here near = elim (cases_lt k n) [
       subst (λ i. P i (get_or (xs ++ x ∷ []) i d)) same (subst (P n) (sym (get_or-append_right xs (x ∷ []) n n d wide (omega arith) ∙ ap (λ i. get_or (x ∷ []) i d) (let e : n - n ≡ 0 = omega arith in e))) here)
 ]
 
-pub dealt_more : {M A : Type 0} (sender : A → ℕ) (view : A → View M) (places n : ℕ) (xs all : List A) (x : A) → all ≡ xs ++ x ∷ [] → sender x ≡ n → view x ≡ fresh_view places n → AreDealt places (map sender xs) (map view xs) n → AreDealt places (map sender all) (map view all) (n + 1)
-dealt_more sender view places n xs all x is number fresh o = record {
-  count = ap (λ ys. length (map sender ys)) is ∙ let c = o.count in omega (arith, length-map (xs ++ x ∷ []) sender, length-map xs sender, length-append xs (x ∷ []));
-  numbers = λ k near. ap (λ ys. get_or ys k 0) (ap (map sender) is ∙ map-append sender xs (x ∷ [])) ∙ one_more (map sender xs) (sender x) 0 n k (λ i m. m ≡ i) o.count o.numbers number near;
-  fresh = λ k d near. ap (λ ys. get_or ys k d) (ap (map view) is ∙ map-append view xs (x ∷ [])) ∙ one_more (map view xs) (view x) d n k (λ i v. v ≡ fresh_view places i) (let c = o.count in omega (arith, length-map xs sender, length-map xs view)) (λ i below. o.fresh i d below) fresh near;
+pub dealt_more : {M A : Type 0} (view : A → View M) (places n : ℕ) (xs all : List A) (x : A) → all ≡ xs ++ x ∷ [] → view x ≡ fresh_view places n → AreDealt places (map view xs) n → AreDealt places (map view all) (n + 1)
+dealt_more view places n xs all x is fresh o = record {
+  count = ap (λ ys. length (map view ys)) is ∙ let c = o.count in omega (arith, length-map (xs ++ x ∷ []) view, length-map xs view, length-append xs (x ∷ []));
+  fresh = λ k d near. ap (λ ys. get_or ys k d) (ap (map view) is ∙ map-append view xs (x ∷ [])) ∙ one_more (map view xs) (view x) d n k (λ i v. v ≡ fresh_view places i) o.count (λ i below. o.fresh i d below) fresh near;
 }

@@ -1,7 +1,8 @@
 -- What the end of a target's table tells.
 use Rattle.post_core.specs.declared.slots.Item.{Item}
 use Rattle.task_ring.specs.Ring.{RingView}
-use Rattle.std.specs.Prelude.{◌≡◌, ℕ, ◌+◌, ◌<◌, ◌≤◌, List, [], ◌∷◌, length, map, slice_index, slice_index_or}
+use Rattle.std.specs.Prelude.{◌≡◌, ℕ, ◌+◌, ◌<◌, ◌≤◌, ◌==◌, All, IsTrue, List, [], ◌∷◌, length, map, slice_index, slice_index_or}
+use Rattle.std.specs.List.{list_any}
 use mathlib.Core.Option.{some}
 use lib.ListN.{get_elem?}
 use Rattle.proxy_laws.specs.declared.records.PostRecord.{PostRecord}
@@ -9,6 +10,12 @@ use Rattle.proxy_laws.specs.Fates.{jobs_of}
 use Rattle.proxy_laws.specs.Sound.{Sound}
 use Rattle.proxy_laws.specs.Worlds.{WorldState, IsWellFormed}
 use Rattle.proxy_laws.specs.OwnMarks.{own_marks}
+use Rattle.post_core.specs.declared.meant.Meant.{Ghosts}
+use Rattle.post_core.specs.declared.owner.Emptied.{Emptied}
+use Rattle.post_core.specs.declared.post.Post.{Post}
+use Rattle.post_core.specs.declared.post.SendPass.{SendPass}
+use Rattle.post_core.specs.OwnerViews.{IsEmptiedOf}
+use Rattle.post_core.specs.SendParts.{IsPassOf, pass_sender, post_senders}
 use Rattle.post_core.specs.declared.views.Entry.{Entry}
 use Rattle.post_core.specs.declared.views.Fact.{Fact}
 use Rattle.post_core.specs.declared.views.Fact.TheVariants as fact
@@ -73,3 +80,9 @@ module _ {M : Type 0} where
   pub record AgreesWithPass (r : PostRecord) (v : View M) : Type 0 where
     pub own : (p : ℕ) → p < length r.places.items → map own_mark (listed (pass_of v).own p) ≡ own_marks (pass_of v).number (map (λ job. job.mark) (jobs_of r p))
     pub seen : (k : ℕ) (f : Fact M) → get_elem? v.seen k ≡ some f → IsInRecord r f
+
+-- the end of the owner and the passes of all senders are of this post's table
+pub record AreAllParts {J M : Type 0} {g : Ghosts J M} (post : Post J M) (emptied : Emptied J M g) (passes : List (SendPass J M g)) : Type 0 where
+  pub owner : IsEmptiedOf post emptied
+  pub tables : All (λ pass. IsPassOf post pass) passes
+  pub all : (s : ℕ) → s < post_senders post → IsTrue (list_any (λ pass. pass_sender pass == s) passes)

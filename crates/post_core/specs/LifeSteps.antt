@@ -1,5 +1,5 @@
 -- What each step on the life of a place tells the seat of its pass, and what the calls on places come to.
-use Rattle.std.specs.Prelude.{◌≡◌, ◌≢◌, ℕ, zero, suc, ◌+◌, ◌-◌, Bool, true, false, List, slice_index, slice_set}
+use Rattle.std.specs.Prelude.{◌≡◌, ◌≢◌, ℕ, zero, suc, ◌+◌, ◌-◌, Option, Some, None, List, slice_index, slice_set}
 use Rattle.atomic_table.specs.Table.{Me, Step}
 use Rattle.task_ring.specs.Ring.{RingView}
 use Rattle.proxy_laws.specs.declared.actors.Look.TheVariants as look
@@ -42,23 +42,19 @@ module _ {M : Type 0} where
   life_marked p v = let pass = pass_of v in with_pass v (record pass { look = look.Nowhere; freed = freed_after (life_after_mark pass.look) p pass.freed })
 
   -- What the calls come to.
-  -- a pass has one use of p fewer
-  abbrev pub use_released : ℕ → View M → View M
-  use_released p v = let pass = pass_of v in with_pass v (record pass { uses = slice_set pass.uses p (slice_index pass.uses p - 1) })
+  -- a pass that looks at p sees this note there, and marks p's life by it: p is free where the note was none
+  abbrev pub look_ended : ℕ → Note → View M → View M
+  look_ended p n v = life_marked p (note_looked p n v)
 
-  -- a pass has set p free once more
-  abbrev pub place_freed : ℕ → View M → View M
-  place_freed p v = let pass = pass_of v in with_pass v (record pass { freed = slice_set pass.freed p (slice_index pass.freed p + 1) })
+  -- a pass has tried to claim p and, where it was a zombie, has looked at p and seen this note
+  abbrev pub place_culled : ℕ → Option Note → View M → View M
+  place_culled p None v = place_tried p v
+  place_culled p (Some n) v = look_ended p n (place_claimed p v)
 
-  -- a pass has tried to claim p, and then perhaps set it free
-  abbrev pub place_culled : ℕ → Bool → View M → View M
-  place_culled p true v = place_freed p (place_tried p v)
-  place_culled p false v = place_tried p v
-
-  -- from v on, the pass has tried to claim each of the places 1 to n in turn, and set some of them free
+  -- from v on, the pass has tried to claim each of the places 1 to n in turn, and looked at the zombies among them
   abbrev pub IsCulled : ℕ → View M → View M → Type 0
   IsCulled zero v after = after ≡ v
-  IsCulled (suc n) v after = (before : View M) × (freed : Bool) × IsCulled n v before × (after ≡ place_culled (suc n) freed before)
+  IsCulled (suc n) v after = (before : View M) × (seen : Option Note) × IsCulled n v before × (after ≡ place_culled (suc n) seen before)
 
   -- the pass has found each of the places 1 to n not free, in turn
   abbrev pub all_found : ℕ → View M → View M

@@ -25,11 +25,10 @@ module _ {M : Type 0} where
     pub no_ring : (pass_of v).ring ≡ []
     pub no_look : (pass_of v).look ≡ look.Nowhere
 
-  -- The view is that of a closed owner that works nowhere, has no turn and has found that nothing waits. It keeps
-  -- these jobs by place, and no job that it took once it was closed is active.
+  -- The view is that of an owner that works nowhere, has no turn and has found, once it was closed, that nothing waits. It
+  -- keeps these jobs by place, and no job that it took once it was closed is active.
   pub record IsEmptied (started : List (List StartedJob)) (taken : List ℕ) (v : View M) : Type 0 where
     pub view : IsOwnerView v
-    pub state : (owner_of v).state ≡ owner.Closed
     pub no_turn : (owner_of v).turn ≡ None
     pub away : (p : ℕ) → slice_index_or (owner_of v).serving p serving.Away ≡ serving.Away
     pub clear : (word : ℕ) → word < 4 → slice_index_or (owner_of v).clear word false ≡ true

@@ -16,7 +16,41 @@ use Rattle.post_core.specs.declared.send_answers.RefAnswer.{RefAnswer}
 use Rattle.post_core.specs.declared.send_answers.RefAnswer.TheVariants as taken
 use Rattle.post_core.specs.declared.views.View.{View}
 use Rattle.post_core.specs.Kept.{listed}
+use Rattle.post_core.specs.SendSteps.{IsNextAt, job_sent}
 use Rattle.post_core.specs.Views.{pass_of}
+
+abbrev pub use_target : {J : Type 0} → PlaceUse J → ℕ
+use_target place_use = place_use.target
+
+abbrev pub use_place : {J : Type 0} → PlaceUse J → ℕ
+use_place place_use = place_use.place
+
+-- the mark of the next job that the pass with this view puts at a place
+abbrev pub next_own_mark : {M : Type 0} → ℕ → ℕ → View M → Mark
+next_own_mark place tag v = record { sender = (pass_of v).number; seq = length (listed (pass_of v).own place); tag = tag }
+
+module _ {J M : Type 0} where
+  -- what a post shows of its target
+  abbrev pub post_target : Post J M → ℕ
+  post_target post = post.target
+
+  abbrev pub post_senders : Post J M → ℕ
+  post_senders post = post.senders
+
+  abbrev pub post_places : Post J M → ℕ
+  post_places post = post.places
+
+  abbrev pub HasPlace : Post J M → ℕ → Type 0
+  HasPlace post place = place < post.places
+
+  -- the use is of this post, for the sender of the pass with this view
+  abbrev pub IsUseFor : Post J M → View M → PlaceUse J → Type 0
+  IsUseFor post v place_use = (place_use.target ≡ post.target) × (place_use.sender ≡ (pass_of v).number)
+
+  -- and the pass has a use of its place
+  pub record IsUseOf (post : Post J M) (v : View M) (place_use : PlaceUse J) : Type 0 where
+    pub of : IsUseFor post v place_use
+    pub used : 0 < slice_index (pass_of v).uses place_use.place
 
 module _ {J M : Type 0} {g : Ghosts J M} where
   -- what each part knows of its sender and its target
@@ -45,16 +79,26 @@ module _ {J M : Type 0} {g : Ghosts J M} where
   abbrev pub IsNoticeOf : Post J M → Notice J M g → Type 0
   IsNoticeOf post notice = notice.seat.table_id ≡ post.table.shared.table_id
 
-  -- the use is of this post and of the pass's sender, and the pass has a use of its place
-  pub record IsUseOf (post : Post J M) (pass : RefPass J M g) (place_use : PlaceUse) : Type 0 where
-    pub target : place_use.target ≡ post.target
-    pub sender : place_use.sender ≡ pass.sender
-    pub near : place_use.place < post.places
-    pub used : 0 < slice_index (pass_of (ref_view pass)).uses place_use.place
+  -- the number of a pass's sender
+  abbrev pub pass_sender : SendPass J M g → ℕ
+  pass_sender pass = (pass_of (pass_view pass)).number
 
-  -- the mark of the next job that the pass puts at a place
-  abbrev pub next_own_mark : RefPass J M g → ℕ → ℕ → Mark
-  next_own_mark pass place tag = record { sender = pass.sender; seq = length (listed (pass_of (ref_view pass)).own place); tag = tag }
+  abbrev pub owing_place : Owing J M g → ℕ
+  owing_place owing = owing.place
+
+  -- the number of the job that was put, at its place
+  abbrev pub owing_nth : Owing J M g → ℕ
+  owing_nth owing = owing.nth
+
+  abbrev pub notice_place : Notice J M g → ℕ
+  notice_place notice = notice.place
+
+  -- The job was put at this place, under the pass's next mark there with this tag and under a number that is next to all
+  -- that the pass had seen there. The pass keeps that mark, and has seen the number reached.
+  pub record IsSent (place tag : ℕ) (meant : M) (v : View M) (owing : Owing J M g) : Type 0 where
+    pub place_is : owing_place owing ≡ place
+    pub next : IsNextAt place (owing_nth owing) v
+    pub kept : owing_view owing ≡ job_sent place (owing_nth owing) (record { mark = next_own_mark place tag v; meaning = meant }) v
 
   abbrev pub IfHeld : RefAnswer J M g → (RefPass J M g → Type 0) → Type 0
   IfHeld (taken.Held pass) P = P pass

@@ -1,15 +1,14 @@
 //! The end of a target: its table is taken down, and its record made.
 
-ghost use Rattle.std.specs.Prelude.{◌≡◌, ℕ, ◌+◌, ◌<◌, ◌==◌, All, map, length, IsTrue, IfOk, IfErr, None, Some, []};
-ghost use Rattle.std.specs.List.{list_any};
-ghost use mathlib.Core.Option.{some};
-ghost use lib.ListN.{get_elem?};
+ghost use Rattle.std.specs.Prelude.{◌≡◌, ℕ, ◌<◌, All, map, length, IfOk, IfErr, []};
 ghost use Rattle.std.specs.Slots.{slots_items, IsFull};
 ghost use Rattle.proxy_laws.specs.Fates.{LawfulPost, jobs_of};
-ghost use Rattle.post_core.specs.Ending.{AgreesWithPass, AreEach, Ended, FoundTaken, IsIdle, all_joined};
+ghost use Rattle.post_core.specs.Ending.{AgreesWithPass, AreAllParts, AreEach, Ended, FoundTaken, IsIdle, all_joined};
 ghost use Rattle.post_core.specs.Kept.{listed};
-ghost use Rattle.post_core.specs.Making.{AreDealt, dealing_view};
+ghost use Rattle.post_core.specs.Making.{IsMade};
+ghost use Rattle.post_core.specs.OwnerViews.{emptied_view};
 ghost use Rattle.post_core.specs.Records.{AreSettled, held_record};
+ghost use Rattle.post_core.specs.SendParts.{pass_sender, pass_view, post_places, post_senders, post_target};
 ghost use Rattle.post_core.specs.Views.{owner_of};
 
 use crate::gathering::gather;
@@ -31,7 +30,7 @@ pub struct CloseBack<J: Meant> {
     pub post: Post<J>,
     pub emptied: Emptied<J>,
     pub passes: Vec<SendPass<J>>,
-    pub uses: Vec<PlaceUse>,
+    pub uses: Vec<PlaceUse<J>>,
 }
 
 // Joins all passes into one seat.
@@ -43,7 +42,8 @@ fn join_all<J: Meant>(
     requires table { (seat.old.table_id ≡ shared.now.table_id) × (0 < shared.now.table_id.words) }
     requires passes { All (λ pass. pass.seat.table_id ≡ shared.now.table_id) passes.items }
     ensures table { (seat.new.table_id ≡ seat.old.table_id) × (seat.new.id ≡ seat.old.id) }
-    ensures view { seat.new.me ≡ (all_joined seat.old.me.0 (map (λ pass. pass.seat.me.0) passes.items), seat.old.me.1) }
+    ensures view { seat.new.me
+        ≡ (all_joined seat.old.me.0 (map (λ pass. pass_view pass) passes.items), seat.old.me.1) }
 {
     while let Some(pass) = passes.pop() {
         let SendPass {
@@ -58,12 +58,13 @@ fn join_all<J: Meant>(
 }
 
 // Lets go of uses, which are nothing but numbers.
-pub(crate) fn end_uses(mut uses: Vec<PlaceUse>) {
+pub(crate) fn end_uses<J>(mut uses: Vec<PlaceUse<J>>) {
     while let Some(place_use) = uses.pop() {
         let PlaceUse {
             target: _,
             place: _,
             sender: _,
+            marker: _,
         } = place_use;
     }
     uses.destroy_empty();
@@ -86,12 +87,11 @@ pub fn discard<J: Meant>(
     post: Post<J>,
     emptied: Emptied<J>,
     passes: Vec<SendPass<J>>,
-    uses: Vec<PlaceUse>,
+    uses: Vec<PlaceUse<J>>,
 )
-    requires owner { emptied.seat.table_id ≡ post.table.shared.table_id }
-    requires passes { All (λ pass. pass.seat.table_id ≡ post.table.shared.table_id) passes.items }
-    requires all { (s : ℕ) → s < post.senders → IsTrue (list_any (λ pass. pass.sender == s) passes.items) }
-    ensures { Ended post.senders post.places (all_joined emptied.seat.me.0 (map (λ pass. pass.seat.me.0) passes.items)) }
+    requires { AreAllParts post emptied passes.items }
+    ensures { Ended (post_senders post) (post_places post)
+        (all_joined (emptied_view emptied) (map (λ pass. pass_view pass) passes.items)) }
 {
     let Post {
         table,
@@ -117,18 +117,22 @@ pub fn close<J: Meant>(
     post: Post<J>,
     emptied: Emptied<J>,
     passes: Vec<SendPass<J>>,
-    uses: Vec<PlaceUse>,
+    uses: Vec<PlaceUse<J>>,
 ) -> Result<PostRecord, CloseBack<J>>
-    requires owner { emptied.seat.table_id ≡ post.table.shared.table_id }
-    requires passes { All (λ pass. pass.seat.table_id ≡ post.table.shared.table_id) passes.items }
-    requires all { (s : ℕ) → s < post.senders → IsTrue (list_any (λ pass. pass.sender == s) passes.items) }
-    requires settled { (p : ℕ) → p < post.places → AreSettled (listed (owner_of emptied.seat.me.0).jobs p) }
+    requires parts { AreAllParts post emptied passes.items }
+    requires settled { (p : ℕ) → p < post_places post
+        → AreSettled (listed (owner_of (emptied_view emptied)).jobs p) }
     ensures lawful { IfOk result (λ r. LawfulPost r) }
-    ensures sized { IfOk result (λ r. (r.target ≡ post.target) × (length r.places.items ≡ post.places)) }
-    ensures owner { IfOk result (λ r. (p : ℕ) → p < post.places → jobs_of r p ≡ map held_record (listed (owner_of emptied.seat.me.0).jobs p)) }
-    ensures passes { IfOk result (λ r. All (λ pass. AgreesWithPass r pass.seat.me.0) passes.items) }
-    ensures found { AreEach post.senders (map (λ pass. pass.sender) passes.items) → IfOk result (λ r. All (λ pass. FoundTaken (map (λ other. other.seat.me.0) passes.items) pass.seat.me.0) passes.items) }
-    ensures err { IfErr result (λ back. (back.post ≡ post) × (back.emptied ≡ emptied) × (back.passes ≡ passes) × (back.uses ≡ uses)) }
+    ensures sized { IfOk result (λ r. (r.target ≡ post_target post)
+        × (length r.places.items ≡ post_places post)) }
+    ensures owner { IfOk result (λ r. (p : ℕ) → p < post_places post
+        → jobs_of r p ≡ map held_record (listed (owner_of (emptied_view emptied)).jobs p)) }
+    ensures passes { IfOk result (λ r. All (λ pass. AgreesWithPass r (pass_view pass)) passes.items) }
+    ensures found { AreEach (post_senders post) (map (λ pass. pass_sender pass) passes.items)
+        → IfOk result (λ r. All (λ pass. FoundTaken
+        (map (λ other. pass_view other) passes.items) (pass_view pass)) passes.items) }
+    ensures err { IfErr result (λ back. (back.post ≡ post) × (back.emptied ≡ emptied)
+        × (back.passes ≡ passes) × (back.uses ≡ uses)) }
 {
     match gather(alloc, &emptied, &passes) {
         Ok(places) => {
@@ -147,9 +151,7 @@ pub fn close<J: Meant>(
 
 /// Ends a target that is as `make` answered it.
 pub fn unmake<J: Meant>(made: Made<J>)
-    requires owner { made.owner.seat.table_id ≡ made.post.table.shared.table_id }
-    requires passes { All (λ pass. pass.seat.table_id ≡ made.post.table.shared.table_id) made.passes.items }
-    requires fresh { (made.owner.seat.me.0 ≡ dealing_view made.post.places made.post.senders 0) × AreDealt made.post.places (map (λ pass. pass.sender) made.passes.items) (map (λ pass. pass.seat.me.0) made.passes.items) made.post.senders }
+    requires { IsMade (post_senders made.post) (post_places made.post) made }
 {
     let Made {
         post,

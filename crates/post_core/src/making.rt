@@ -3,7 +3,8 @@
 ghost use Rattle.std.specs.Prelude.{◌≡◌, ℕ, ◌+◌, ◌-◌, ◌<◌, ◌≤◌, All, IfOk, Some, [], ◌∷◌, ◌++◌, length, map, replicate, slice_index, slice_index_or, vec_capacity};
 ghost use Rattle.proxy_laws.specs.Limits.{places_max, senders_max};
 ghost use Rattle.post_core.specs.Ending.{IsIdle};
-ghost use Rattle.post_core.specs.Making.{AreDealt, dealing_view, fresh_view, open_rings, opening_words, system_uses};
+ghost use Rattle.post_core.specs.Making.{AreDealt, IsMade, dealing_view, open_rings, opening_words, system_uses};
+ghost use Rattle.post_core.specs.SendParts.{pass_view, post_places, post_senders, post_target};
 ghost use Rattle.post_core.specs.Words.{word_count};
 
 use crate::ending::end_uses;
@@ -18,6 +19,7 @@ use atomic_table::{Refused, Seat, Shared, Table};
 use crossbeam_utils::sync::{Parker, Unparker};
 use proxy_laws::OwnMark;
 use std::alloc::{AllocError, Global};
+use std::marker::PhantomData;
 use task_ring::Ring;
 
 /// The cells of a ring at first.
@@ -28,7 +30,7 @@ pub struct Made<J: Meant> {
     pub post: Post<J>,
     pub owner: Owner<J>,
     pub passes: Vec<SendPass<J>>,
-    pub system: Vec<PlaceUse>,
+    pub system: Vec<PlaceUse<J>>,
 }
 
 fn zeros(alloc: Global, count: u64) -> Result<Vec<u64>, AllocError>
@@ -83,7 +85,8 @@ fn new_own(alloc: Global, places: u32) -> Result<Vec<Vec<OwnMark>>, AllocError>
 }
 
 fn new_owns(alloc: Global, senders: u32, places: u32) -> Result<Vec<Vec<Vec<OwnMark>>>, AllocError>
-    ensures { IfOk result (λ owns. (length owns.items ≡ senders) × All (λ own. map (λ kept. kept.items) own.items ≡ replicate places []) owns.items) }
+    ensures { IfOk result (λ owns. (length owns.items ≡ senders)
+        × All (λ own. map (λ kept. kept.items) own.items ≡ replicate places []) owns.items) }
 {
     let mut owns = Vec::new(alloc);
     for _ in 0..senders {
@@ -101,12 +104,15 @@ fn deal<J: Meant>(
     mut owns: Vec<Vec<Vec<OwnMark>>>,
     passes: &mut Vec<SendPass<J>>,
 )
-    requires table { (seat.old.table_id ≡ shared.now.table_id) × (0 < shared.now.table_id.words) × (shared.now.table_id.slots ≡ shared.now.key.places) }
+    requires table { (seat.old.table_id ≡ shared.now.table_id) × (0 < shared.now.table_id.words)
+        × (shared.now.table_id.slots ≡ shared.now.key.places) }
     requires first { seat.old.me ≡ (dealing_view shared.now.key.places 0 senders, []) }
-    requires owns { (length owns.items ≡ senders) × All (λ own. map (λ kept. kept.items) own.items ≡ replicate shared.now.key.places []) owns.items }
+    requires owns { (length owns.items ≡ senders)
+        × All (λ own. map (λ kept. kept.items) own.items ≡ replicate shared.now.key.places []) owns.items }
     requires room { (passes.old.items ≡ []) × (senders ≤ vec_capacity passes.old) }
-    ensures seat { (seat.new.table_id ≡ seat.old.table_id) × (seat.new.me ≡ (dealing_view shared.now.key.places senders 0, [])) }
-    ensures passes { AreDealt shared.now.key.places (map (λ pass. pass.sender) passes.new.items) (map (λ pass. pass.seat.me.0) passes.new.items) senders }
+    ensures seat { (seat.new.table_id ≡ seat.old.table_id)
+        × (seat.new.me ≡ (dealing_view shared.now.key.places senders 0, [])) }
+    ensures passes { AreDealt shared.now.key.places (map (λ pass. pass_view pass) passes.new.items) senders }
     ensures tables { All (λ pass. pass.seat.table_id ≡ shared.now.table_id) passes.new.items }
 {
     for sender in 0..senders {
@@ -124,7 +130,8 @@ fn deal<J: Meant>(
 }
 
 fn new_jobs(alloc: Global, places: u32) -> Result<Vec<PlaceJobs>, AllocError>
-    ensures started { IfOk result (λ jobs. map (λ place. place.started.items) jobs.items ≡ replicate places []) }
+    ensures started { IfOk result
+        (λ jobs. map (λ place. place.started.items) jobs.items ≡ replicate places []) }
     ensures taken { IfOk result (λ jobs. map (λ place. place.taken) jobs.items ≡ replicate places 0) }
 {
     let mut jobs = Vec::new(alloc);
@@ -138,7 +145,7 @@ fn new_jobs(alloc: Global, places: u32) -> Result<Vec<PlaceJobs>, AllocError>
 }
 
 // The uses of place 0, one for each sender.
-fn new_system(alloc: Global, target: u32, senders: u32) -> Result<Vec<PlaceUse>, AllocError>
+fn new_system<J>(alloc: Global, target: u32, senders: u32) -> Result<Vec<PlaceUse<J>>, AllocError>
     ensures { IfOk result (λ uses. uses.items ≡ system_uses target senders) }
 {
     let Ok(mut uses) = Vec::with_capacity(alloc, senders as usize) else {
@@ -149,6 +156,7 @@ fn new_system(alloc: Global, target: u32, senders: u32) -> Result<Vec<PlaceUse>,
             target,
             place: 0,
             sender,
+            marker: PhantomData,
         });
     }
     Ok(uses)
@@ -164,8 +172,10 @@ fn make_table<J: Meant>(
 ) -> Result<(Post<J>, Seat<Ring<Item<J>>, View<J::Meaning>>), AllocError>
     requires senders { (1 ≤ senders) × (senders ≤ senders_max) }
     requires places { (1 ≤ places) × (places ≤ places_max) }
-    ensures post { IfOk result (λ made. (made.0.target ≡ target) × (made.0.senders ≡ senders) × (made.0.places ≡ places)) }
-    ensures seat { IfOk result (λ made. (made.1.table_id ≡ made.0.table.shared.table_id) × (made.1.me ≡ (dealing_view places 0 senders, []))) }
+    ensures post { IfOk result (λ made. (post_target made.0 ≡ target)
+        × (post_senders made.0 ≡ senders) × (post_places made.0 ≡ places)) }
+    ensures seat { IfOk result (λ made. (made.1.table_id ≡ made.0.table.shared.table_id)
+        × (made.1.me ≡ (dealing_view places 0 senders, []))) }
 {
     let words = new_words(alloc, senders, places)?;
     let rings = new_rings(alloc, places)?;
@@ -201,10 +211,9 @@ pub fn make<J: Meant>(
 ) -> Result<Made<J>, AllocError>
     requires senders { (1 ≤ senders) × (senders ≤ senders_max) }
     requires places { (1 ≤ places) × (places ≤ places_max) }
-    ensures post { IfOk result (λ made. (made.post.target ≡ target) × (made.post.senders ≡ senders) × (made.post.places ≡ places)) }
-    ensures owner { IfOk result (λ made. (made.owner.seat.table_id ≡ made.post.table.shared.table_id) × (made.owner.seat.me.0 ≡ dealing_view places senders 0)) }
-    ensures passes { IfOk result (λ made. AreDealt places (map (λ pass. pass.sender) made.passes.items) (map (λ pass. pass.seat.me.0) made.passes.items) senders) }
-    ensures tables { IfOk result (λ made. All (λ pass. pass.seat.table_id ≡ made.post.table.shared.table_id) made.passes.items) }
+    ensures post { IfOk result (λ made. (post_target made.post ≡ target)
+        × (post_senders made.post ≡ senders) × (post_places made.post ≡ places)) }
+    ensures parts { IfOk result (λ made. IsMade senders places made) }
     ensures system { IfOk result (λ made. made.system.items ≡ system_uses target senders) }
 {
     let parker = Parker::new(alloc)?;

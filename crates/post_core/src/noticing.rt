@@ -1,8 +1,9 @@
 //! The owner looks for notices, receives them, and begins to execute.
 
-ghost use Rattle.std.specs.Prelude.{◌≡◌, ◌<◌};
+ghost use Rattle.std.specs.Prelude.{◌≡◌};
 ghost use Rattle.proxy_laws.specs.declared.actors.Serving.TheVariants.{Direct};
-ghost use Rattle.post_core.specs.OwnerViews.{IsNextNotice, exec_view, got_view, owner_view};
+ghost use Rattle.post_core.specs.OwnerViews.{IsExecOf, IsGotOf, IsNextNotice, IsOwnerOf, exec_place, exec_view, got_place, got_view, owner_view};
+ghost use Rattle.post_core.specs.SendParts.{HasPlace, use_place};
 ghost use Rattle.post_core.specs.ServingSteps.{at_serving, place_received};
 
 use crate::mailing::{look_mail, take_notice};
@@ -17,8 +18,8 @@ impl<J: Meant> Owner<J> {
     /// Looks into the words of the mailbox in turn, up to the first that is not 0, and takes the notice of
     /// its lowest place. Notices are numbered from 1.
     pub fn next_notice(self, post: &Post<J>) -> Noticed<J>
-        requires { self.seat.table_id ≡ post.now.table.shared.table_id }
-        ensures { IsNextNotice (owner_view self) result }
+        requires { IsOwnerOf post.now self }
+        ensures { IsNextNotice post.now (owner_view self) result }
     {
         let Owner {
             mut seat,
@@ -65,15 +66,16 @@ impl<J: Meant> Owner<J> {
 impl<J: Meant> Got<J> {
     /// The place whose notice was got.
     pub fn place(&self) -> u32
-        ensures { result ≡ self.now.place }
+        ensures { result ≡ got_place self.now }
     {
         self.place
     }
 
     /// Receives the place's note, and begins to execute its jobs.
     pub fn receive(self, post: &Post<J>) -> Exec<J>
-        requires { self.seat.table_id ≡ post.now.table.shared.table_id }
-        ensures { exec_view result ≡ place_received self.place (got_view self) }
+        requires { IsGotOf post.now self }
+        ensures { IsExecOf post.now result × (exec_place result ≡ got_place self)
+            × (exec_view result ≡ place_received (got_place self) (got_view self)) }
     {
         let Got {
             mut seat,
@@ -98,10 +100,11 @@ impl<J: Meant> Got<J> {
 
 impl<J: Meant> Owner<J> {
     /// Begins to execute the place's jobs without a notice. Its note stays as it is.
-    pub fn direct(self, post: &Post<J>, place_use: &PlaceUse) -> Exec<J>
-        requires table { self.seat.table_id ≡ post.now.table.shared.table_id }
-        requires near { place_use.now.place < post.now.places }
-        ensures { exec_view result ≡ at_serving place_use.now.place Direct (owner_view self) }
+    pub fn direct(self, post: &Post<J>, place_use: &PlaceUse<J>) -> Exec<J>
+        requires table { IsOwnerOf post.now self }
+        requires near { HasPlace post.now (use_place place_use.now) }
+        ensures { IsExecOf post.now result × (exec_place result ≡ use_place place_use.now)
+            × (exec_view result ≡ at_serving (use_place place_use.now) Direct (owner_view self)) }
     {
         let Owner {
             mut seat,

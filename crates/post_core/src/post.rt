@@ -14,6 +14,7 @@ use atomic_table::{Seat, Table};
 use crossbeam_utils::sync::Unparker;
 use proxy_laws::OwnMark;
 use std::alloc::Global;
+use std::marker::PhantomData;
 use task_ring::Ring;
 
 /// The table of one target, which threads share.
@@ -80,9 +81,10 @@ pub struct SeenNote<J: Meant> {
     ghost is_note: { (seat.me.0 ≡ noted seat.me.0) × (seat.me.1 ≡ []) },
 }
 
-/// A use of a place by one sender.
-pub struct PlaceUse {
+/// A use of a place by one sender, of a target with jobs of this type.
+pub struct PlaceUse<J> {
     pub(crate) target: u32,
     pub(crate) place: u32,
     pub(crate) sender: u32,
+    pub(crate) marker: PhantomData<J>,
 }

@@ -13,7 +13,7 @@ impl<J: Meant> SendPass<J> {
     /// Makes a note of what the pass has seen.
     pub fn note(self, post: &Post<J>) -> (SendPass<J>, SeenNote<J>)
         requires table { IsPassOf post.now self }
-        ensures pass { IsPassOf post.now result.0 × (result.0.sender ≡ self.sender) × (pass_view result.0 ≡ pass_view self) }
+        ensures pass { IsPassOf post.now result.0 × (pass_view result.0 ≡ pass_view self) }
         ensures note { IsNoteOf post.now result.1 × (note_view result.1 ≡ noted (pass_view self)) }
     {
         let SendPass {
@@ -37,7 +37,8 @@ impl<J: Meant> SendPass<J> {
     /// The pass has seen what the note has.
     pub fn meet(self, post: &Post<J>, note: SeenNote<J>) -> SendPass<J>
         requires table { IsPassOf post.now self × IsNoteOf post.now note }
-        ensures { IsPassOf post.now result × (result.sender ≡ self.sender) × (pass_view result ≡ with_seen (note_view note).seen (pass_view self)) }
+        ensures { IsPassOf post.now result
+            × (pass_view result ≡ with_seen (note_view note).seen (pass_view self)) }
     {
         let SendPass {
             mut seat,

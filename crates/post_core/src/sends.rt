@@ -2,8 +2,8 @@
 
 ghost use Rattle.std.specs.Prelude.{◌≡◌, false};
 ghost use Rattle.proxy_laws.specs.declared.actors.Phase.TheVariants.{Idle, Messenger, Referenced};
-ghost use Rattle.post_core.specs.SendParts.{IfClosed, IfHeld, IfMessenger, IfNoMemory, IfPut, IfQuiet, IsNoticeOf, IsOwingOf, IsPassOf, IsRefPassOf, IsUseOf, next_own_mark, notice_view, owing_view, pass_view, ref_view};
-ghost use Rattle.post_core.specs.SendSteps.{IsNextAt, has_seen_closed, job_sent, none_seen};
+ghost use Rattle.post_core.specs.SendParts.{HasPlace, IfClosed, IfHeld, IfMessenger, IfNoMemory, IfPut, IfQuiet, IsNoticeOf, IsOwingOf, IsPassOf, IsRefPassOf, IsSent, IsUseOf, next_own_mark, notice_place, notice_view, owing_nth, owing_place, owing_view, pass_view, post_target, ref_view, use_place};
+ghost use Rattle.post_core.specs.SendSteps.{has_seen_closed, none_seen};
 ghost use Rattle.post_core.specs.Views.{at_phase};
 
 use crate::mailing::add_mail;
@@ -22,13 +22,15 @@ impl<J: Meant> Post<J> {
     /// Takes a reference of the target for a pass. It waits where other senders keep changing their number.
     pub fn take_ref<R: Wait>(&self, rt: &R, pass: SendPass<J>) -> RefAnswer<J>
         requires table { IsPassOf self.now pass }
-        ensures held { IfHeld result (λ held. IsRefPassOf self.now held × (held.sender ≡ pass.sender) × (ref_view held ≡ at_phase Referenced (pass_view pass))) }
+        ensures held { IfHeld result (λ held. IsRefPassOf self.now held
+            × (ref_view held ≡ at_phase Referenced (pass_view pass))) }
 
         // A pass that has seen that the target is closed gets no reference.
         ensures stands { IfHeld result (λ held. has_seen_closed (pass_view pass) ≡ false) }
 
         // A load in this call found no reference, and the pass has seen that.
-        ensures closed { IfClosed result (λ back. IsPassOf self.now back × (back.sender ≡ pass.sender) × (pass_view back ≡ none_seen (pass_view pass))) }
+        ensures closed { IfClosed result (λ back. IsPassOf self.now back
+            × (pass_view back ≡ none_seen (pass_view pass))) }
     {
         let SendPass {
             mut seat,
@@ -68,18 +70,19 @@ impl<J: Meant> RefPass<J> {
         self,
         rt: &R,
         post: &Post<J>,
-        place_use: &PlaceUse,
+        place_use: &PlaceUse<J>,
         tag: u64,
         job: J,
     ) -> PutAnswer<J>
         requires table { IsRefPassOf post.now self }
-        requires place { IsUseOf post.now self place_use.now }
-        requires suits { J.suits post.now.target place_use.now.place (next_own_mark self place_use.now.place tag) (J.meaning job) }
-
-        // The job's number is the next at its place, and the pass keeps its mark.
-        ensures put { IfPut result (λ owing. IsOwingOf post.now owing × (owing.sender ≡ self.sender) × (owing.place ≡ place_use.now.place) × IsNextAt owing.place owing.nth (ref_view self)
-            × (owing_view owing ≡ job_sent owing.place owing.nth (record { mark = next_own_mark self owing.place tag; meaning = J.meaning job }) (ref_view self))) }
-        ensures no_memory { IfNoMemory result (λ pass back. IsRefPassOf post.now pass × (pass.sender ≡ self.sender) × (ref_view pass ≡ ref_view self) × (back ≡ job)) }
+        requires near { HasPlace post.now (use_place place_use.now) }
+        requires used { IsUseOf post.now (ref_view self) place_use.now }
+        requires suits { J.suits (post_target post.now) (use_place place_use.now)
+            (next_own_mark (use_place place_use.now) tag (ref_view self)) (J.meaning job) }
+        ensures put { IfPut result (λ owing. IsOwingOf post.now owing
+            × IsSent (use_place place_use.now) tag (J.meaning job) (ref_view self) owing) }
+        ensures no_memory { IfNoMemory result (λ pass back. IsRefPassOf post.now pass
+            × (ref_view pass ≡ ref_view self) × (back ≡ job)) }
     {
         let RefPass {
             mut seat,
@@ -125,7 +128,7 @@ impl<J: Meant> RefPass<J> {
     /// Gives the reference back.
     pub fn give(self, post: &Post<J>) -> SendPass<J>
         requires table { IsRefPassOf post.now self }
-        ensures { IsPassOf post.now result × (result.sender ≡ self.sender) × (pass_view result ≡ at_phase Idle (ref_view self)) }
+        ensures { IsPassOf post.now result × (pass_view result ≡ at_phase Idle (ref_view self)) }
     {
         let RefPass {
             mut seat,
@@ -146,7 +149,7 @@ impl<J: Meant> RefPass<J> {
 impl<J: Meant> Owing<J> {
     /// The number of the job at its place.
     pub fn nth(&self) -> u64
-        ensures { result ≡ self.now.nth }
+        ensures { result ≡ owing_nth self.now }
     {
         self.nth
     }
@@ -156,10 +159,13 @@ impl<J: Meant> Owing<J> {
         requires table { IsOwingOf post.now self }
 
         // The note was pending.
-        ensures quiet { IfQuiet result (λ pass. IsRefPassOf post.now pass × (pass.sender ≡ self.sender) × (ref_view pass ≡ at_phase Referenced (owing_view self))) }
+        ensures quiet { IfQuiet result (λ pass. IsRefPassOf post.now pass
+            × (ref_view pass ≡ at_phase Referenced (owing_view self))) }
 
         // It was not.
-        ensures messenger { IfMessenger result (λ notice. IsNoticeOf post.now notice × (notice.sender ≡ self.sender) × (notice.place ≡ self.place) × (notice_view notice ≡ at_phase (Messenger self.place) (owing_view self))) }
+        ensures messenger { IfMessenger result (λ notice. IsNoticeOf post.now notice
+            × (notice_place notice ≡ owing_place self)
+            × (notice_view notice ≡ at_phase (Messenger (owing_place self)) (owing_view self))) }
     {
         let Owing {
             mut seat,
@@ -192,7 +198,8 @@ impl<J: Meant> Notice<J> {
     /// Brings the notice to the mailbox, and wakes the owner where its word held none.
     pub fn deliver(self, post: &Post<J>) -> RefPass<J>
         requires table { IsNoticeOf post.now self }
-        ensures { IsRefPassOf post.now result × (result.sender ≡ self.sender) × (ref_view result ≡ at_phase Referenced (notice_view self)) }
+        ensures { IsRefPassOf post.now result
+            × (ref_view result ≡ at_phase Referenced (notice_view self)) }
     {
         let Notice {
             mut seat,

@@ -4,7 +4,8 @@ ghost use Rattle.std.specs.Prelude.{◌≡◌, ◌<◌, Some, map, length, slice
 ghost use Rattle.proxy_laws.specs.declared.records.FateMark.TheVariants.{Finished};
 ghost use Rattle.post_core.specs.Kept.{listed};
 ghost use Rattle.post_core.specs.NoteParts.{IsNoteOf, note_view};
-ghost use Rattle.post_core.specs.OwnerViews.{exec_view, owner_view};
+ghost use Rattle.post_core.specs.OwnerViews.{IsExecOf, IsOwnerOf, exec_place, exec_view, owner_view};
+ghost use Rattle.post_core.specs.SendParts.{HasPlace};
 ghost use Rattle.post_core.specs.Settles.{kept_settled};
 ghost use Rattle.post_core.specs.Steps.{IsActiveHere};
 ghost use Rattle.post_core.specs.Views.{job_settled, noted, owner_of};
@@ -28,11 +29,12 @@ fn keep_fate(jobs: &mut Vec<PlaceJobs>, place: u32, nth: u64, fate: FateMark)
 impl<J: Meant> Owner<J> {
     /// Settles a job that it took and that is not settled. The note has seen that.
     pub fn settle(&mut self, post: &Post<J>, place: u32, nth: u64, fate: FateMark) -> SeenNote<J>
-        requires table { self.old.seat.table_id ≡ post.now.table.shared.table_id }
-        requires near { place < post.now.places }
+        requires table { IsOwnerOf post.now self.old }
+        requires near { HasPlace post.now place }
         requires active { IsActiveHere (listed (owner_of (owner_view self.old)).jobs place) nth }
         requires finished { fate ≡ Finished }
-        ensures owner { (self.new.seat.table_id ≡ self.old.seat.table_id) × (owner_view self.new ≡ job_settled place nth Finished (owner_view self.old)) }
+        ensures owner { IsOwnerOf post.now self.new
+            × (owner_view self.new ≡ job_settled place nth Finished (owner_view self.old)) }
         ensures note { IsNoteOf post.now result × (note_view result ≡ noted (owner_view self.new)) }
     {
         let note = settle(&post.table.shared, &mut self.seat, place, nth, fate);
@@ -44,11 +46,12 @@ impl<J: Meant> Owner<J> {
 impl<J: Meant> Exec<J> {
     /// Settles a job that it took and that is not settled. The note has seen that.
     pub fn settle(&mut self, post: &Post<J>, place: u32, nth: u64, fate: FateMark) -> SeenNote<J>
-        requires table { self.old.seat.table_id ≡ post.now.table.shared.table_id }
-        requires near { place < post.now.places }
+        requires table { IsExecOf post.now self.old }
+        requires near { HasPlace post.now place }
         requires active { IsActiveHere (listed (owner_of (exec_view self.old)).jobs place) nth }
         requires finished { fate ≡ Finished }
-        ensures owner { (self.new.seat.table_id ≡ self.old.seat.table_id) × (self.new.place ≡ self.old.place) × (exec_view self.new ≡ job_settled place nth Finished (exec_view self.old)) }
+        ensures owner { IsExecOf post.now self.new × (exec_place self.new ≡ exec_place self.old)
+            × (exec_view self.new ≡ job_settled place nth Finished (exec_view self.old)) }
         ensures note { IsNoteOf post.now result × (note_view result ≡ noted (exec_view self.new)) }
     {
         let note = settle(&post.table.shared, &mut self.seat, place, nth, fate);

@@ -1,8 +1,10 @@
 //! The owner takes jobs of the place that it executes, and finishes with it.
 
 ghost use Rattle.std.specs.Prelude.{◌≡◌, ◌+◌, ◌-◌, ◌∷◌, ◌++◌, ◌<◌, ◌≤◌, Some, [], map, length, slice_get, slice_index, slice_set, vec_capacity, OnOk};
+ghost use Rattle.proxy_laws.specs.declared.actors.Serving.TheVariants.{Away};
 ghost use Rattle.post_core.specs.Kept.{listed};
-ghost use Rattle.post_core.specs.OwnerViews.{IsTaken, exec_room, exec_view, finished_view, owner_view, room_here, seen_view};
+ghost use Rattle.post_core.specs.OwnerViews.{IsExecOf, IsOwnerOf, IsSameExec, IsSeenEmptyOf, IsTaken, exec_place, exec_room, exec_view, owner_view, room_here, seen_place, seen_view};
+ghost use Rattle.post_core.specs.ServingSteps.{at_serving};
 
 use crate::first_job::first_job;
 use crate::meant::Meant;
@@ -43,16 +45,16 @@ impl<J: Meant> Exec<J> {
     /// Makes room to keep one job more.
     pub fn ready(&mut self) -> Result<(), AllocError>
         ensures room { OnOk result (1 ≤ exec_room self.new) }
-        ensures kept { (exec_view self.new ≡ exec_view self.old) × (self.new.place ≡ self.old.place) × (self.new.seat.table_id ≡ self.old.seat.table_id) }
+        ensures kept { IsSameExec self.old self.new }
     {
         make_room(&mut self.jobs, self.place)
     }
 
     /// Takes the first job that waits at the place, or finds as many taken as put. It waits for the turn.
     pub fn take<R: Wait>(self, rt: &R, post: &Post<J>) -> Taken<J>
-        requires table { self.seat.table_id ≡ post.now.table.shared.table_id }
+        requires table { IsExecOf post.now self }
         requires room { 1 ≤ exec_room self }
-        ensures { IsTaken J.meaning (J.suits post.now.target) self.place (exec_view self) result }
+        ensures { IsTaken post.now (exec_place self) (exec_view self) result }
     {
         let Exec {
             mut seat,
@@ -103,8 +105,9 @@ impl<J: Meant> SeenEmpty<J> {
     /// Is done with the place. After an execution under a notice the place's note is exchanged from received
     /// for none, whether that wins or not; after a direct one nothing is left to do.
     pub fn finish(self, post: &Post<J>) -> Owner<J>
-        requires { self.seat.table_id ≡ post.now.table.shared.table_id }
-        ensures { owner_view result ≡ finished_view self.start self.place (seen_view self) }
+        requires { IsSeenEmptyOf post.now self }
+        ensures { IsOwnerOf post.now result
+            × (owner_view result ≡ at_serving (seen_place self) Away (seen_view self)) }
     {
         let SeenEmpty {
             mut seat,

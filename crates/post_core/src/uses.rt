@@ -1,12 +1,14 @@
 //! The calls of a pass on places: it creates them, and clones and releases uses of them.
 
-ghost use Rattle.std.specs.Prelude.{◌≡◌, ◌≢◌, ◌-◌, ◌<◌, Bool, IfSome, None, slice_index};
+ghost use Rattle.std.specs.Prelude.{◌≡◌, ◌≢◌, ◌-◌, ◌<◌, Option, IfSome, MatchBool, None, slice_index};
 ghost use Rattle.proxy_laws.specs.declared.actors.Look.TheVariants.{At, Nowhere};
+ghost use Rattle.proxy_laws.specs.declared.actors.Note.{Note};
+ghost use Rattle.proxy_laws.specs.declared.actors.Note.TheVariants.{None as NoNote};
 ghost use Rattle.proxy_laws.specs.declared.actors.Phase.TheVariants.{Idle};
-ghost use Rattle.post_core.specs.LifeParts.{IfFull, IfMade, IsCreated, IsFoundTo, IsNewUse, IsOwnUse, IsReleased, look_ended};
-ghost use Rattle.post_core.specs.LifeSteps.{IsCulled, all_found, place_culled, use_cloned};
+ghost use Rattle.post_core.specs.LifeParts.{IfFull, IfMade, IsAllFound, IsCreated, IsNewUse, IsReleased};
+ghost use Rattle.post_core.specs.LifeSteps.{IsCulled, all_found, look_ended, place_culled, use_cloned};
 ghost use Rattle.post_core.specs.Rule.{clones_max};
-ghost use Rattle.post_core.specs.SendParts.{IsPassOf, pass_view};
+ghost use Rattle.post_core.specs.SendParts.{HasPlace, IsPassOf, IsUseOf, pass_sender, pass_view, post_places, use_place, use_target};
 ghost use Rattle.post_core.specs.Steps.{IsOneTable};
 ghost use Rattle.post_core.specs.Views.{IsPassView, pass_of, place_created};
 
@@ -17,6 +19,7 @@ use crate::rule::{Law, Sizes};
 use crate::slots::Item;
 use crate::views::View;
 use atomic_table::{Seat, Shared};
+use std::marker::PhantomData;
 use task_ring::Ring;
 
 /// The life of a free place.
@@ -47,7 +50,7 @@ pub enum CreateAnswer<J: Meant> {
     /// A place was free, and this is its first use.
     Made {
         pass: SendPass<J>,
-        place_use: PlaceUse,
+        place_use: PlaceUse<J>,
     },
     /// No place was free.
     Full(SendPass<J>),
@@ -63,7 +66,8 @@ fn end_look<J: Meant>(
     requires near { place < shared.now.key.places }
     requires looks { IsPassView seat.old.me.0 × ((pass_of seat.old.me.0).look ≡ At place) }
     ensures seat { (seat.new.table_id ≡ seat.old.table_id) × (seat.new.id ≡ seat.old.id) }
-    ensures ended { seat.new.me ≡ (look_ended place result seat.old.me.0, seat.old.me.1) }
+    ensures ended { (note : Note) × MatchBool result (note ≡ NoNote) (note ≢ NoNote)
+        × (seat.new.me ≡ (look_ended place note seat.old.me.0, seat.old.me.1)) }
 {
     if look_note(shared, seat, place) == NO_NOTE {
         mark_life(shared, seat, place, FREE);
@@ -107,7 +111,8 @@ fn cull<J: Meant>(
     requires near { place < shared.now.key.places }
     requires nowhere { IsPassView seat.old.me.0 × ((pass_of seat.old.me.0).look ≡ Nowhere) }
     ensures seat { (seat.new.table_id ≡ seat.old.table_id) × (seat.new.id ≡ seat.old.id) }
-    ensures culled { (freed : Bool) × (seat.new.me ≡ (place_culled place freed seat.old.me.0, seat.old.me.1)) }
+    ensures culled { (seen : Option Note)
+        × (seat.new.me ≡ (place_culled place seen seat.old.me.0, seat.old.me.1)) }
 {
     if try_claim(shared, seat, place) == ZOMBIE {
         end_look(shared, seat, place);
@@ -159,10 +164,14 @@ impl<J: Meant> Post<J> {
 
         // The pass tried to claim each place from 1 up. After that it found those below this one not free, and then this
         // one free.
-        ensures made { IfMade result (λ back place_use. IsPassOf self.now back × (back.sender ≡ pass.sender) × IsNewUse self.now back place_use × IsCreated (self.now.places - 1) place_use.place (pass_view pass) (pass_view back)) }
+        ensures made { IfMade result (λ back place_use. IsPassOf self.now back
+            × (pass_sender back ≡ pass_sender pass) × IsNewUse self.now (pass_view back) place_use
+            × IsCreated (post_places self.now) (use_place place_use) (pass_view pass) (pass_view back)) }
 
         // The pass tried to claim each place from 1 up. After that it found each of them not free.
-        ensures full { IfFull result (λ back. IsPassOf self.now back × (back.sender ≡ pass.sender) × IsFoundTo (self.now.places - 1) (self.now.places - 1) (pass_view pass) (pass_view back)) }
+        ensures full { IfFull result (λ back. IsPassOf self.now back
+            × (pass_sender back ≡ pass_sender pass)
+            × IsAllFound (post_places self.now) (pass_view pass) (pass_view back)) }
     {
         let SendPass {
             mut seat,
@@ -183,6 +192,7 @@ impl<J: Meant> Post<J> {
                     target: self.target,
                     place,
                     sender,
+                    marker: PhantomData,
                 },
             },
             None => CreateAnswer::Full(SendPass {
@@ -195,11 +205,17 @@ impl<J: Meant> Post<J> {
     }
 
     /// Clones a use. A pass makes at most 2^32 clones.
-    pub fn clone_use(&self, pass: SendPass<J>, place_use: &PlaceUse) -> (SendPass<J>, PlaceUse)
+    pub fn clone_use(
+        &self,
+        pass: SendPass<J>,
+        place_use: &PlaceUse<J>,
+    ) -> (SendPass<J>, PlaceUse<J>)
         requires table { IsPassOf self.now pass }
-        requires used { IsOwnUse self.now pass place_use.now }
+        requires near { HasPlace self.now (use_place place_use.now) }
+        requires used { IsUseOf self.now (pass_view pass) place_use.now }
         requires few { (pass_of (pass_view pass)).clones < clones_max }
-        ensures { IsPassOf self.now result.0 × (result.0.sender ≡ pass.sender) × (result.1 ≡ place_use.now) × (pass_view result.0 ≡ use_cloned place_use.now.place (pass_view pass)) }
+        ensures { IsPassOf self.now result.0 × (result.1 ≡ place_use.now)
+            × (pass_view result.0 ≡ use_cloned (use_place place_use.now) (pass_view pass)) }
     {
         let SendPass {
             mut seat,
@@ -220,16 +236,19 @@ impl<J: Meant> Post<J> {
                 target: place_use.target,
                 place,
                 sender: place_use.sender,
+                marker: PhantomData,
             },
         )
     }
 
     /// Releases a use of a place other than 0. The last one sets the place free, or leaves a zombie.
-    pub fn release(&self, pass: SendPass<J>, place_use: PlaceUse) -> (SendPass<J>, Released)
+    pub fn release(&self, pass: SendPass<J>, place_use: PlaceUse<J>) -> (SendPass<J>, Released)
         requires table { IsPassOf self.now pass }
-        requires used { IsOwnUse self.now pass place_use }
-        requires other { place_use.place ≢ 0 }
-        ensures { IsPassOf self.now result.0 × (result.0.sender ≡ pass.sender) × IsReleased place_use.place (pass_view pass) result.1 (pass_view result.0) }
+        requires near { HasPlace self.now (use_place place_use) }
+        requires used { IsUseOf self.now (pass_view pass) place_use }
+        requires other { use_place place_use ≢ 0 }
+        ensures { IsPassOf self.now result.0
+            × IsReleased (use_place place_use) (pass_view pass) result.1 (pass_view result.0) }
     {
         let SendPass {
             mut seat,
@@ -241,6 +260,7 @@ impl<J: Meant> Post<J> {
             target: _,
             place,
             sender: _,
+            marker: _,
         } = place_use;
         let released = release_use(&self.table.shared, &mut seat, place);
         (
@@ -255,17 +275,17 @@ impl<J: Meant> Post<J> {
     }
 }
 
-impl PlaceUse {
+impl<J> PlaceUse<J> {
     /// The number of the place in its target.
     pub fn place(&self) -> u32
-        ensures { result ≡ self.now.place }
+        ensures { result ≡ use_place self.now }
     {
         self.place
     }
 
     /// The target of the place.
     pub fn target(&self) -> u32
-        ensures { result ≡ self.now.target }
+        ensures { result ≡ use_target self.now }
     {
         self.target
     }

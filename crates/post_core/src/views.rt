@@ -40,12 +40,6 @@ pub struct Finding {
     pub freed: u64,
 }
 
-/// An exchange that failed: the word, and what it held.
-pub struct Exchange {
-    pub word: u32,
-    pub value: u64,
-}
-
 /// What a pass knows of its sender. Lists without a remark have one member for each place.
 pub struct PassView<M> {
     pub number: u32,
@@ -62,7 +56,6 @@ pub struct PassView<M> {
     pub tried: LinkedList<u64>,
     /// Each finding, of any place.
     pub full: LinkedList<Finding>,
-    pub last_failed: Option<Exchange>,
 }
 
 /// What the owner's seat knows. Lists without a remark have one member for each place.

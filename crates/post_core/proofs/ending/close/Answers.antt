@@ -5,14 +5,14 @@ use Rattle.proxy_laws.specs.Fates.{jobs_of}
 use Rattle.post_core.specs.Kept.{listed}
 use Rattle.post_core.specs.Records.{held_record}
 use Rattle.post_core.specs.Views.{owner_of}
-use Rattle.post_core.proofs.Closed.{agrees, at_get, found, lawful, record_is}
+use Rattle.post_core.proofs.Closed.{agrees, at_get, found, lawful, of_its_sender, record_is}
 use Rattle.post_core.proofs.ending.close.Given as given
 use Rattle.post_core.proofs.ending.close.Goals as goal
 
 module _ (g : given.Over) (c : goal.After-discard g) where
   -- the owner's list has a member for each place
   wide : length c.args.emptied.jobs.items ≡ c.args.post.places
-  wide = let a = c.args.emptied.empty.1 in let b = ap (λ t. t.slots) c.requires.owner in let d = c.args.post.sized.1 in omega arith
+  wide = let a = c.args.emptied.empty.1 in let b = ap (λ t. t.slots) c.requires.parts.owner in let d = c.args.post.sized.1 in omega arith
 
   wide_taken : length (map (λ place. place.taken) c.args.emptied.jobs.items) ≡ c.args.post.places
   wide_taken = length-map c.args.emptied.jobs.items (λ place. place.taken) ∙ wide
@@ -25,16 +25,16 @@ module _ (g : given.Over) (c : goal.After-discard g) where
 
   place_is : (p : ℕ) → p < c.args.post.places → jobs_of r p ≡ map held_record (listed (owner_of c.args.emptied.seat.me.0).jobs p)
   place_is p near = c.in-Ok.ensures.each p (let e = count in omega arith)
-      ∙ record_is (λ pass. pass.seat.me.0) (λ pass. map (λ kept. kept.items) pass.own.items) (λ pass. pass.sender) (λ pass. pass.is_pass) c.args.passes.items c.args.emptied.seat.me.0 (map (λ place. place.started.items) c.args.emptied.jobs.items) (map (λ place. place.taken) c.args.emptied.jobs.items) c.args.emptied.is_emptied c.args.post.senders c.args.post.places c.requires.all c.discard.ensures wide_taken p near
+      ∙ record_is (λ pass. pass.seat.me.0) (λ pass. map (λ kept. kept.items) pass.own.items) (λ pass. of_its_sender pass.is_pass) c.args.passes.items c.args.emptied.seat.me.0 (map (λ place. place.started.items) c.args.emptied.jobs.items) (map (λ place. place.taken) c.args.emptied.jobs.items) c.args.emptied.is_emptied c.args.post.senders c.args.post.places c.requires.parts.all c.discard.ensures wide_taken p near
 
 pub returns-in-Ok-clause-owner : goal.returns-in-Ok-clause-owner
 returns-in-Ok-clause-owner g c p near = place_is g c p near
 
 pub returns-in-Ok-clause-lawful : goal.returns-in-Ok-clause-lawful
-returns-in-Ok-clause-lawful g c = lawful (λ pass. pass.seat.me.0) (λ pass. map (λ kept. kept.items) pass.own.items) (λ pass. pass.sender) (λ pass. pass.is_pass) c.args.passes.items c.args.emptied.seat.me.0 (map (λ place. place.started.items) c.args.emptied.jobs.items) (map (λ place. place.taken) c.args.emptied.jobs.items) c.args.emptied.is_emptied c.args.post.senders c.args.post.places c.requires.all c.discard.ensures (wide_taken g c) c.requires.settled (r g c) (count g c) (place_is g c)
+returns-in-Ok-clause-lawful g c = lawful (λ pass. pass.seat.me.0) (λ pass. map (λ kept. kept.items) pass.own.items) (λ pass. of_its_sender pass.is_pass) c.args.passes.items c.args.emptied.seat.me.0 (map (λ place. place.started.items) c.args.emptied.jobs.items) (map (λ place. place.taken) c.args.emptied.jobs.items) c.args.emptied.is_emptied c.args.post.senders c.args.post.places c.requires.parts.all c.discard.ensures (wide_taken g c) c.requires.settled (r g c) (count g c) (place_is g c)
 
 pub returns-in-Ok-clause-passes : goal.returns-in-Ok-clause-passes
-returns-in-Ok-clause-passes g c k d near = agrees (λ pass. pass.seat.me.0) (λ pass. map (λ kept. kept.items) pass.own.items) (λ pass. pass.sender) (λ pass. pass.is_pass) c.args.passes.items c.args.emptied.seat.me.0 (map (λ place. place.started.items) c.args.emptied.jobs.items) (map (λ place. place.taken) c.args.emptied.jobs.items) c.args.emptied.is_emptied c.args.post.senders c.args.post.places c.requires.all c.discard.ensures (wide_taken g c) c.requires.settled (r g c) (count g c) (place_is g c) k (get_or c.args.passes.items k d) (at_get c.args.passes.items k d near)
+returns-in-Ok-clause-passes g c k d near = agrees (λ pass. pass.seat.me.0) (λ pass. map (λ kept. kept.items) pass.own.items) (λ pass. of_its_sender pass.is_pass) c.args.passes.items c.args.emptied.seat.me.0 (map (λ place. place.started.items) c.args.emptied.jobs.items) (map (λ place. place.taken) c.args.emptied.jobs.items) c.args.emptied.is_emptied c.args.post.senders c.args.post.places c.requires.parts.all c.discard.ensures (wide_taken g c) c.requires.settled (r g c) (count g c) (place_is g c) k (get_or c.args.passes.items k d) (at_get c.args.passes.items k d near)
 
 pub returns-in-Ok-clause-found : goal.returns-in-Ok-clause-found
-returns-in-Ok-clause-found g c each k d near = found (λ pass. pass.seat.me.0) (λ pass. map (λ kept. kept.items) pass.own.items) (λ pass. pass.sender) (λ pass. pass.is_pass) c.args.passes.items c.args.emptied.seat.me.0 (map (λ place. place.started.items) c.args.emptied.jobs.items) (map (λ place. place.taken) c.args.emptied.jobs.items) c.args.emptied.is_emptied c.args.post.senders c.args.post.places c.requires.all c.discard.ensures (wide_taken g c) each k (get_or c.args.passes.items k d) (at_get c.args.passes.items k d near)
+returns-in-Ok-clause-found g c each k d near = found (λ pass. pass.seat.me.0) (λ pass. map (λ kept. kept.items) pass.own.items) (λ pass. of_its_sender pass.is_pass) c.args.passes.items c.args.emptied.seat.me.0 (map (λ place. place.started.items) c.args.emptied.jobs.items) (map (λ place. place.taken) c.args.emptied.jobs.items) c.args.emptied.is_emptied c.args.post.senders c.args.post.places c.requires.parts.all c.discard.ensures (wide_taken g c) each k (get_or c.args.passes.items k d) (at_get c.args.passes.items k d near)
