@@ -26,35 +26,35 @@ room_here (Some place) = vec_capacity place.started - length place.started.items
 
 module _ {J M : Type 0} {g : Ghosts J M} where
   abbrev pub owner_view : Owner J M g → View M
-  owner_view owner = owner.seat.me.0
+  owner_view owner = owner.hold.seat.me.0
 
   abbrev pub got_view : Got J M g → View M
-  got_view got = got.seat.me.0
+  got_view got = got.hold.seat.me.0
 
   abbrev pub exec_view : Exec J M g → View M
-  exec_view exec = exec.seat.me.0
+  exec_view exec = exec.hold.seat.me.0
 
   abbrev pub seen_view : SeenEmpty J M g → View M
-  seen_view seen = seen.seat.me.0
+  seen_view seen = seen.hold.seat.me.0
 
   abbrev pub emptied_view : Emptied J M g → View M
-  emptied_view emptied = emptied.seat.me.0
+  emptied_view emptied = emptied.hold.seat.me.0
 
   -- the part is of this post's table
   abbrev pub IsOwnerOf : Post J M → Owner J M g → Type 0
-  IsOwnerOf post owner = owner.seat.table_id ≡ post.table.shared.table_id
+  IsOwnerOf post owner = owner.hold.seat.table_id ≡ post.table.shared.table_id
 
   abbrev pub IsGotOf : Post J M → Got J M g → Type 0
-  IsGotOf post got = got.seat.table_id ≡ post.table.shared.table_id
+  IsGotOf post got = got.hold.seat.table_id ≡ post.table.shared.table_id
 
   abbrev pub IsExecOf : Post J M → Exec J M g → Type 0
-  IsExecOf post exec = exec.seat.table_id ≡ post.table.shared.table_id
+  IsExecOf post exec = exec.hold.seat.table_id ≡ post.table.shared.table_id
 
   abbrev pub IsSeenEmptyOf : Post J M → SeenEmpty J M g → Type 0
-  IsSeenEmptyOf post seen = seen.seat.table_id ≡ post.table.shared.table_id
+  IsSeenEmptyOf post seen = seen.hold.seat.table_id ≡ post.table.shared.table_id
 
   abbrev pub IsEmptiedOf : Post J M → Emptied J M g → Type 0
-  IsEmptiedOf post emptied = emptied.seat.table_id ≡ post.table.shared.table_id
+  IsEmptiedOf post emptied = emptied.hold.seat.table_id ≡ post.table.shared.table_id
 
   -- the place that each is at
   abbrev pub got_place : Got J M g → ℕ
@@ -73,12 +73,12 @@ module _ {J M : Type 0} {g : Ghosts J M} where
 
   -- the execution stands as it did, but perhaps for its room
   pub record IsSameExec (old new : Exec J M g) : Type 0 where
-    pub table : new.seat.table_id ≡ old.seat.table_id
+    pub table : new.hold.seat.table_id ≡ old.hold.seat.table_id
     pub place : exec_place new ≡ exec_place old
     pub view : exec_view new ≡ exec_view old
 
   abbrev pub exec_room : Exec J M g → ℕ
-  exec_room exec = room_here (slice_get exec.jobs.items exec.place)
+  exec_room exec = room_here (slice_get exec.hold.jobs.items exec.place)
 
   -- The first job that waited was taken under the number next to those taken before, and suits its mark; or as many
   -- were taken as were put.

@@ -55,29 +55,29 @@ module _ {J M : Type 0} where
 module _ {J M : Type 0} {g : Ghosts J M} where
   -- what each part knows of its sender and its target
   abbrev pub pass_view : SendPass J M g → View M
-  pass_view pass = pass.seat.me.0
+  pass_view pass = pass.hold.seat.me.0
 
   abbrev pub ref_view : RefPass J M g → View M
-  ref_view pass = pass.seat.me.0
+  ref_view pass = pass.hold.seat.me.0
 
   abbrev pub owing_view : Owing J M g → View M
-  owing_view owing = owing.seat.me.0
+  owing_view owing = owing.hold.seat.me.0
 
   abbrev pub notice_view : Notice J M g → View M
-  notice_view notice = notice.seat.me.0
+  notice_view notice = notice.hold.seat.me.0
 
   -- the part is of this post's table
   abbrev pub IsPassOf : Post J M → SendPass J M g → Type 0
-  IsPassOf post pass = pass.seat.table_id ≡ post.table.shared.table_id
+  IsPassOf post pass = pass.hold.seat.table_id ≡ post.table.shared.table_id
 
   abbrev pub IsRefPassOf : Post J M → RefPass J M g → Type 0
-  IsRefPassOf post pass = pass.seat.table_id ≡ post.table.shared.table_id
+  IsRefPassOf post pass = pass.hold.seat.table_id ≡ post.table.shared.table_id
 
   abbrev pub IsOwingOf : Post J M → Owing J M g → Type 0
-  IsOwingOf post owing = owing.seat.table_id ≡ post.table.shared.table_id
+  IsOwingOf post owing = owing.hold.seat.table_id ≡ post.table.shared.table_id
 
   abbrev pub IsNoticeOf : Post J M → Notice J M g → Type 0
-  IsNoticeOf post notice = notice.seat.table_id ≡ post.table.shared.table_id
+  IsNoticeOf post notice = notice.hold.seat.table_id ≡ post.table.shared.table_id
 
   -- the number of a pass's sender
   abbrev pub pass_sender : SendPass J M g → ℕ

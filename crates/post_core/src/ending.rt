@@ -15,8 +15,8 @@ use crate::gathering::gather;
 use crate::joining::Together;
 use crate::making::Made;
 use crate::meant::Meant;
-use crate::owner::{Emptied, Owner};
-use crate::post::{PlaceUse, Post, SendPass};
+use crate::owner::{Emptied, Owner, OwnerHold};
+use crate::post::{PassHold, PlaceUse, Post, SendPass};
 use crate::rule::{Law, Sizes};
 use crate::slots::Item;
 use crate::views::View;
@@ -40,18 +40,19 @@ fn join_all<J: Meant>(
     mut passes: Vec<SendPass<J>>,
 )
     requires table { (seat.old.table_id ≡ shared.now.table_id) × (0 < shared.now.table_id.words) }
-    requires passes { All (λ pass. pass.seat.table_id ≡ shared.now.table_id) passes.items }
+    requires passes { All (λ pass. pass.hold.seat.table_id ≡ shared.now.table_id) passes.items }
     ensures table { (seat.new.table_id ≡ seat.old.table_id) × (seat.new.id ≡ seat.old.id) }
     ensures view { seat.new.me
         ≡ (all_joined seat.old.me.0 (map (λ pass. pass_view pass) passes.items), seat.old.me.1) }
 {
     while let Some(pass) = passes.pop() {
-        let SendPass {
+        let SendPass { hold } = pass;
+        let PassHold {
             seat: other,
             target: _,
             sender: _,
             own: _,
-        } = pass;
+        } = hold;
         shared.join_seat::<Together>(seat, other);
     }
     passes.destroy_empty();
@@ -100,11 +101,14 @@ pub fn discard<J: Meant>(
         places: _,
         waker: _,
     } = post;
-    let Emptied {
+    let Emptied { hold } = emptied;
+    let OwnerHold {
         mut seat,
         target: _,
         jobs: _,
-    } = emptied;
+        got: _,
+        parker: _,
+    } = hold;
     join_all(&table.shared, &mut seat, passes);
     end_uses(uses);
     let closed = table.close_with(seat);
@@ -166,13 +170,14 @@ pub fn unmake<J: Meant>(made: Made<J>)
         places: _,
         waker: _,
     } = post;
-    let Owner {
+    let Owner { hold } = owner;
+    let OwnerHold {
         mut seat,
         target: _,
         jobs: _,
         got: _,
         parker: _,
-    } = owner;
+    } = hold;
     join_all(&table.shared, &mut seat, passes);
     end_uses(system);
     let closed = table.close_with(seat);

@@ -53,12 +53,12 @@ fn place_jobs<J: Meant>(
     place: usize,
 ) -> Result<Vec<JobRecord>, AllocError>
     requires first { length kept.now.started.items ≤ kept.now.taken }
-    requires wide { All (λ pass. place < length pass.own.items) passes.now.items }
-    ensures { IfOk result (λ jobs. jobs.items ≡ place_record kept.now.started.items kept.now.taken (map (λ pass. listed (map (λ own. own.items) pass.own.items) place) passes.now.items)) }
+    requires wide { All (λ pass. place < length pass.hold.own.items) passes.now.items }
+    ensures { IfOk result (λ jobs. jobs.items ≡ place_record kept.now.started.items kept.now.taken (map (λ pass. listed (map (λ own. own.items) pass.hold.own.items) place) passes.now.items)) }
 {
     let mut jobs = begin(alloc, kept)?;
     for pass in passes {
-        fill(&mut jobs, &pass.own[place]);
+        fill(&mut jobs, &pass.hold.own[place]);
     }
     Ok(jobs)
 }
@@ -69,13 +69,13 @@ pub(crate) fn gather<J: Meant>(
     emptied: &Emptied<J>,
     passes: &Vec<SendPass<J>>,
 ) -> Result<Vec<PlaceRecord>, AllocError>
-    requires { All (λ pass. pass.seat.table_id ≡ emptied.now.seat.table_id) passes.now.items }
-    ensures count { IfOk result (λ places. length places.items ≡ length emptied.now.jobs.items) }
+    requires { All (λ pass. pass.hold.seat.table_id ≡ emptied.now.hold.seat.table_id) passes.now.items }
+    ensures count { IfOk result (λ places. length places.items ≡ length emptied.now.hold.jobs.items) }
     ensures each { IfOk result (λ places. (p : ℕ) → p < length places.items
-        → listed (map (λ place. place.jobs.items) places.items) p ≡ place_record (listed (map (λ place. place.started.items) emptied.now.jobs.items) p) (slice_index (map (λ place. place.taken) emptied.now.jobs.items) p) (map (λ pass. listed (map (λ own. own.items) pass.own.items) p) passes.now.items)) }
+        → listed (map (λ place. place.jobs.items) places.items) p ≡ place_record (listed (map (λ place. place.started.items) emptied.now.hold.jobs.items) p) (slice_index (map (λ place. place.taken) emptied.now.hold.jobs.items) p) (map (λ pass. listed (map (λ own. own.items) pass.hold.own.items) p) passes.now.items)) }
 {
     let mut places = Vec::new(alloc);
-    for (place, kept) in emptied.jobs.iter().enumerate() {
+    for (place, kept) in emptied.hold.jobs.iter().enumerate() {
         let jobs = place_jobs(alloc, kept, passes, place)?;
         places.push(PlaceRecord { jobs })?;
     }

@@ -10,8 +10,8 @@ ghost use Rattle.post_core.specs.Words.{word_count};
 use crate::ending::end_uses;
 use crate::joining::Dealt;
 use crate::meant::Meant;
-use crate::owner::{Owner, PlaceJobs};
-use crate::post::{PlaceUse, Post, SendPass};
+use crate::owner::{Owner, OwnerHold, PlaceJobs};
+use crate::post::{PassHold, PlaceUse, Post, SendPass};
 use crate::rule::{Law, Sizes};
 use crate::slots::Item;
 use crate::views::View;
@@ -113,7 +113,7 @@ fn deal<J: Meant>(
     ensures seat { (seat.new.table_id ≡ seat.old.table_id)
         × (seat.new.me ≡ (dealing_view shared.now.key.places senders 0, [])) }
     ensures passes { AreDealt shared.now.key.places (map (λ pass. pass_view pass) passes.new.items) senders }
-    ensures tables { All (λ pass. pass.seat.table_id ≡ shared.now.table_id) passes.new.items }
+    ensures tables { All (λ pass. pass.hold.seat.table_id ≡ shared.now.table_id) passes.new.items }
 {
     for sender in 0..senders {
         let Some(own) = owns.pop() else {
@@ -121,10 +121,12 @@ fn deal<J: Meant>(
         };
         let dealt = shared.split_seat::<Dealt>(seat);
         passes.push_reserved(SendPass {
-            seat: dealt,
-            target,
-            sender,
-            own,
+            hold: PassHold {
+                seat: dealt,
+                target,
+                sender,
+                own,
+            },
         });
     }
 }
@@ -243,11 +245,13 @@ pub fn make<J: Meant>(
     Ok(Made {
         post,
         owner: Owner {
-            seat,
-            target,
-            jobs,
-            got: 0,
-            parker,
+            hold: OwnerHold {
+                seat,
+                target,
+                jobs,
+                got: 0,
+                parker,
+            },
         },
         passes,
         system,

@@ -8,7 +8,7 @@ ghost use Rattle.post_core.specs.ServingSteps.{at_serving, place_received};
 
 use crate::mailing::{look_mail, take_notice};
 use crate::meant::Meant;
-use crate::owner::{Exec, Got, Noticed, Owner};
+use crate::owner::{Exec, Got, Noticed, Owner, OwnerHold};
 use crate::post::{PlaceUse, Post};
 use crate::serving::{begin_direct, receive_note};
 use proxy_laws::Started;
@@ -21,34 +21,39 @@ impl<J: Meant> Owner<J> {
         requires { IsOwnerOf post.now self }
         ensures { IsNextNotice post.now (owner_view self) result }
     {
-        let Owner {
+        let Owner { hold } = self;
+        let OwnerHold {
             mut seat,
             target,
             jobs,
             got,
             parker,
-        } = self;
+        } = hold;
         for word in 0..4 {
             let found = look_mail(&post.table.shared, &mut seat, word);
             if found != 0 {
                 let place = 64 * word + found.trailing_zeros();
                 take_notice(&post.table.shared, &mut seat, place);
                 return Noticed::Got(Got {
-                    seat,
-                    target,
-                    jobs,
-                    got: got + 1,
-                    parker,
+                    hold: OwnerHold {
+                        seat,
+                        target,
+                        jobs,
+                        got: got + 1,
+                        parker,
+                    },
                     place,
                 });
             }
         }
         Noticed::Nothing(Owner {
-            seat,
-            target,
-            jobs,
-            got,
-            parker,
+            hold: OwnerHold {
+                seat,
+                target,
+                jobs,
+                got,
+                parker,
+            },
         })
     }
 }
@@ -58,7 +63,7 @@ impl<J: Meant> Owner<J> {
     pub fn park<R: Wait>(self, rt: &R, _post: &Post<J>) -> Owner<J>
         ensures { result ≡ self }
     {
-        self.parker.park(rt);
+        self.hold.parker.park(rt);
         self
     }
 }
@@ -77,23 +82,12 @@ impl<J: Meant> Got<J> {
         ensures { IsExecOf post.now result × (exec_place result ≡ got_place self)
             × (exec_view result ≡ place_received (got_place self) (got_view self)) }
     {
-        let Got {
-            mut seat,
-            target,
-            jobs,
-            got,
-            parker,
-            place,
-        } = self;
-        receive_note(&post.table.shared, &mut seat, place);
+        let Got { mut hold, place } = self;
+        receive_note(&post.table.shared, &mut hold.seat, place);
         Exec {
-            seat,
-            target,
-            jobs,
-            got,
-            parker,
+            start: Started::Notice(hold.got),
+            hold,
             place,
-            start: Started::Notice(got),
         }
     }
 }
@@ -106,21 +100,11 @@ impl<J: Meant> Owner<J> {
         ensures { IsExecOf post.now result × (exec_place result ≡ use_place place_use.now)
             × (exec_view result ≡ at_serving (use_place place_use.now) Direct (owner_view self)) }
     {
-        let Owner {
-            mut seat,
-            target,
-            jobs,
-            got,
-            parker,
-        } = self;
+        let Owner { mut hold } = self;
         let place = place_use.place;
-        begin_direct(&post.table.shared, &mut seat, place);
+        begin_direct(&post.table.shared, &mut hold.seat, place);
         Exec {
-            seat,
-            target,
-            jobs,
-            got,
-            parker,
+            hold,
             place,
             start: Started::Direct,
         }

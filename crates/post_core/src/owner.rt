@@ -23,77 +23,61 @@ pub struct PlaceJobs {
     pub(crate) taken: u64,
 }
 
-/// The owner of an open target, which works nowhere.
-pub struct Owner<J: Meant> {
+/// What an owner holds in each of its states.
+pub(crate) struct OwnerHold<J: Meant> {
     pub(crate) seat: Seat<Ring<Item<J>>, View<J::Meaning>>,
     pub(crate) target: u32,
-    // By place.
+    /// By place.
     pub(crate) jobs: Vec<PlaceJobs>,
-    // How many notices it got.
+    /// How many notices it got.
     pub(crate) got: u64,
     pub(crate) parker: Parker,
-    ghost is_owner: { IsOwner (map (λ place. place.started.items) jobs.items) (map (λ place. place.taken) jobs.items) got seat.me.0 },
-    ghost empty: { (seat.me.1 ≡ []) × (length jobs.items ≡ seat.table_id.slots) },
+}
+
+/// The owner of an open target, which works nowhere.
+pub struct Owner<J: Meant> {
+    pub(crate) hold: OwnerHold<J>,
+    ghost is_owner: { IsOwner (map (λ place. place.started.items) hold.jobs.items) (map (λ place. place.taken) hold.jobs.items) hold.got hold.seat.me.0 },
+    ghost empty: { (hold.seat.me.1 ≡ []) × (length hold.jobs.items ≡ hold.seat.table_id.slots) },
 }
 
 /// An owner that has got a notice of a place.
 pub struct Got<J: Meant> {
-    pub(crate) seat: Seat<Ring<Item<J>>, View<J::Meaning>>,
-    pub(crate) target: u32,
-    // By place.
-    pub(crate) jobs: Vec<PlaceJobs>,
-    // How many notices it got.
-    pub(crate) got: u64,
-    pub(crate) parker: Parker,
+    pub(crate) hold: OwnerHold<J>,
     pub(crate) place: u32,
-    ghost is_got: { IsOwnerAt place (GotUnder got) (map (λ place. place.started.items) jobs.items) (map (λ place. place.taken) jobs.items) got seat.me.0 },
-    ghost empty: { (seat.me.1 ≡ []) × (length jobs.items ≡ seat.table_id.slots) },
-    ghost near: { place < seat.table_id.slots },
+    ghost is_got: { IsOwnerAt place (GotUnder hold.got) (map (λ place. place.started.items) hold.jobs.items) (map (λ place. place.taken) hold.jobs.items) hold.got hold.seat.me.0 },
+    ghost empty: { (hold.seat.me.1 ≡ []) × (length hold.jobs.items ≡ hold.seat.table_id.slots) },
+    ghost near: { place < hold.seat.table_id.slots },
 }
 
 /// An owner that executes the jobs of a place.
 pub struct Exec<J: Meant> {
-    pub(crate) seat: Seat<Ring<Item<J>>, View<J::Meaning>>,
-    pub(crate) target: u32,
-    // By place.
-    pub(crate) jobs: Vec<PlaceJobs>,
-    // How many notices it got.
-    pub(crate) got: u64,
-    pub(crate) parker: Parker,
+    pub(crate) hold: OwnerHold<J>,
     pub(crate) place: u32,
     // What starts the jobs that it takes.
     pub(crate) start: Started,
-    ghost is_exec: { IsOwnerAt place (serving_of start) (map (λ place. place.started.items) jobs.items) (map (λ place. place.taken) jobs.items) got seat.me.0 },
+    ghost is_exec: { IsOwnerAt place (serving_of start) (map (λ place. place.started.items) hold.jobs.items) (map (λ place. place.taken) hold.jobs.items) hold.got hold.seat.me.0 },
     ghost runs: { is_open_start start ≡ true },
-    ghost empty: { (seat.me.1 ≡ []) × (length jobs.items ≡ seat.table_id.slots) },
-    ghost near: { place < seat.table_id.slots },
+    ghost empty: { (hold.seat.me.1 ≡ []) × (length hold.jobs.items ≡ hold.seat.table_id.slots) },
+    ghost near: { place < hold.seat.table_id.slots },
 }
 
 /// An owner that has found no job waiting at the place that it executed.
 pub struct SeenEmpty<J: Meant> {
-    pub(crate) seat: Seat<Ring<Item<J>>, View<J::Meaning>>,
-    pub(crate) target: u32,
-    // By place.
-    pub(crate) jobs: Vec<PlaceJobs>,
-    // How many notices it got.
-    pub(crate) got: u64,
-    pub(crate) parker: Parker,
+    pub(crate) hold: OwnerHold<J>,
     pub(crate) place: u32,
     pub(crate) start: Started,
-    ghost is_seen: { IsOwnerAt place (serving_after_look (serving_of start)) (map (λ place. place.started.items) jobs.items) (map (λ place. place.taken) jobs.items) got seat.me.0 },
+    ghost is_seen: { IsOwnerAt place (serving_after_look (serving_of start)) (map (λ place. place.started.items) hold.jobs.items) (map (λ place. place.taken) hold.jobs.items) hold.got hold.seat.me.0 },
     ghost runs: { is_open_start start ≡ true },
-    ghost empty: { (seat.me.1 ≡ []) × (length jobs.items ≡ seat.table_id.slots) },
-    ghost near: { place < seat.table_id.slots },
+    ghost empty: { (hold.seat.me.1 ≡ []) × (length hold.jobs.items ≡ hold.seat.table_id.slots) },
+    ghost near: { place < hold.seat.table_id.slots },
 }
 
 /// The owner of a target that is closed and at which nothing waits.
 pub struct Emptied<J: Meant> {
-    pub(crate) seat: Seat<Ring<Item<J>>, View<J::Meaning>>,
-    pub(crate) target: u32,
-    // By place.
-    pub(crate) jobs: Vec<PlaceJobs>,
-    ghost is_emptied: { IsEmptied (map (λ place. place.started.items) jobs.items) (map (λ place. place.taken) jobs.items) seat.me.0 },
-    ghost empty: { (seat.me.1 ≡ []) × (length jobs.items ≡ seat.table_id.slots) },
+    pub(crate) hold: OwnerHold<J>,
+    ghost is_emptied: { IsEmptied (map (λ place. place.started.items) hold.jobs.items) (map (λ place. place.taken) hold.jobs.items) hold.seat.me.0 },
+    ghost empty: { (hold.seat.me.1 ≡ []) × (length hold.jobs.items ≡ hold.seat.table_id.slots) },
 }
 
 /// What an owner found in its mailbox.

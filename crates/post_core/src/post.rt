@@ -29,50 +29,46 @@ pub struct Post<J: Meant> {
     ghost sized: { (table.shared.table_id.words ≡ word_count places) × (table.shared.table_id.slots ≡ places) },
 }
 
-/// What one sender holds of a target. It has no reference.
-pub struct SendPass<J: Meant> {
+/// What a pass holds in each of its states.
+pub(crate) struct PassHold<J: Meant> {
     pub(crate) seat: Seat<Ring<Item<J>>, View<J::Meaning>>,
     pub(crate) target: u32,
     pub(crate) sender: u32,
-    // By place: the marks that it put there.
+    /// By place: the marks that it put there.
     pub(crate) own: Vec<Vec<OwnMark>>,
-    ghost is_pass: { IsPass sender Idle (map (λ kept. kept.items) own.items) seat.me.0 },
-    ghost empty: { (seat.me.1 ≡ []) × (length own.items ≡ seat.table_id.slots) },
+}
+
+/// What one sender holds of a target. It has no reference.
+pub struct SendPass<J: Meant> {
+    pub(crate) hold: PassHold<J>,
+    ghost is_pass: { IsPass hold.sender Idle (map (λ kept. kept.items) hold.own.items) hold.seat.me.0 },
+    ghost empty: { (hold.seat.me.1 ≡ []) × (length hold.own.items ≡ hold.seat.table_id.slots) },
 }
 
 /// A pass with a reference of its target.
 pub struct RefPass<J: Meant> {
-    pub(crate) seat: Seat<Ring<Item<J>>, View<J::Meaning>>,
-    pub(crate) target: u32,
-    pub(crate) sender: u32,
-    pub(crate) own: Vec<Vec<OwnMark>>,
-    ghost is_pass: { IsPass sender Referenced (map (λ kept. kept.items) own.items) seat.me.0 },
-    ghost empty: { (seat.me.1 ≡ []) × (length own.items ≡ seat.table_id.slots) },
+    pub(crate) hold: PassHold<J>,
+    ghost is_pass: { IsPass hold.sender Referenced (map (λ kept. kept.items) hold.own.items) hold.seat.me.0 },
+    ghost empty: { (hold.seat.me.1 ≡ []) × (length hold.own.items ≡ hold.seat.table_id.slots) },
 }
 
 /// A pass that has put a job at a place, and owes a notification.
 pub struct Owing<J: Meant> {
-    pub(crate) seat: Seat<Ring<Item<J>>, View<J::Meaning>>,
-    pub(crate) target: u32,
-    pub(crate) sender: u32,
-    pub(crate) own: Vec<Vec<OwnMark>>,
+    pub(crate) hold: PassHold<J>,
     pub(crate) place: u32,
     pub(crate) nth: u64,
-    ghost is_pass: { IsPass sender (OwingAt place) (map (λ kept. kept.items) own.items) seat.me.0 },
-    ghost empty: { (seat.me.1 ≡ []) × (length own.items ≡ seat.table_id.slots) },
-    ghost near: { place < seat.table_id.slots },
+    ghost is_pass: { IsPass hold.sender (OwingAt place) (map (λ kept. kept.items) hold.own.items) hold.seat.me.0 },
+    ghost empty: { (hold.seat.me.1 ≡ []) × (length hold.own.items ≡ hold.seat.table_id.slots) },
+    ghost near: { place < hold.seat.table_id.slots },
 }
 
 /// A pass that has to bring a notice of a place to the mailbox.
 pub struct Notice<J: Meant> {
-    pub(crate) seat: Seat<Ring<Item<J>>, View<J::Meaning>>,
-    pub(crate) target: u32,
-    pub(crate) sender: u32,
-    pub(crate) own: Vec<Vec<OwnMark>>,
+    pub(crate) hold: PassHold<J>,
     pub(crate) place: u32,
-    ghost is_pass: { IsPass sender (Messenger place) (map (λ kept. kept.items) own.items) seat.me.0 },
-    ghost empty: { (seat.me.1 ≡ []) × (length own.items ≡ seat.table_id.slots) },
-    ghost near: { place < seat.table_id.slots },
+    ghost is_pass: { IsPass hold.sender (Messenger place) (map (λ kept. kept.items) hold.own.items) hold.seat.me.0 },
+    ghost empty: { (hold.seat.me.1 ≡ []) × (length hold.own.items ≡ hold.seat.table_id.slots) },
+    ghost near: { place < hold.seat.table_id.slots },
 }
 
 /// What a pass or the owner has seen of a target. A pass that meets it has seen that too.

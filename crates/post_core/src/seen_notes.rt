@@ -16,22 +16,9 @@ impl<J: Meant> SendPass<J> {
         ensures pass { IsPassOf post.now result.0 × (pass_view result.0 ≡ pass_view self) }
         ensures note { IsNoteOf post.now result.1 × (note_view result.1 ≡ noted (pass_view self)) }
     {
-        let SendPass {
-            mut seat,
-            target,
-            sender,
-            own,
-        } = self;
-        let note = post.table.shared.split_seat::<Noted>(&mut seat);
-        (
-            SendPass {
-                seat,
-                target,
-                sender,
-                own,
-            },
-            SeenNote { seat: note },
-        )
+        let SendPass { mut hold } = self;
+        let note = post.table.shared.split_seat::<Noted>(&mut hold.seat);
+        (SendPass { hold }, SeenNote { seat: note })
     }
 
     /// The pass has seen what the note has.
@@ -40,19 +27,11 @@ impl<J: Meant> SendPass<J> {
         ensures { IsPassOf post.now result
             × (pass_view result ≡ with_seen (note_view note).seen (pass_view self)) }
     {
-        let SendPass {
-            mut seat,
-            target,
-            sender,
-            own,
-        } = self;
+        let SendPass { mut hold } = self;
         let SeenNote { seat: seen } = note;
-        post.table.shared.join_seat::<Together>(&mut seat, seen);
-        SendPass {
-            seat,
-            target,
-            sender,
-            own,
-        }
+        post.table
+            .shared
+            .join_seat::<Together>(&mut hold.seat, seen);
+        SendPass { hold }
     }
 }

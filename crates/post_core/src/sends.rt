@@ -8,7 +8,7 @@ ghost use Rattle.post_core.specs.Views.{at_phase};
 
 use crate::mailing::add_mail;
 use crate::meant::Meant;
-use crate::post::{Notice, Owing, PlaceUse, Post, RefPass, SendPass};
+use crate::post::{Notice, Owing, PassHold, PlaceUse, Post, RefPass, SendPass};
 use crate::put_jobs::put_marked;
 use crate::send_answers::{Notified, PutAnswer, RefAnswer};
 use crate::send_steps::{add_ref, drop_ref, load_refs, swap_note};
@@ -32,29 +32,34 @@ impl<J: Meant> Post<J> {
         ensures closed { IfClosed result (λ back. IsPassOf self.now back
             × (pass_view back ≡ none_seen (pass_view pass))) }
     {
-        let SendPass {
+        let SendPass { hold } = pass;
+        let PassHold {
             mut seat,
             target,
             sender,
             own,
-        } = pass;
+        } = hold;
         let mut seen = load_refs(&self.table.shared, &mut seat);
         for _ in rt.forever() {
             if seen == 0 {
                 return RefAnswer::Closed(SendPass {
-                    seat,
-                    target,
-                    sender,
-                    own,
+                    hold: PassHold {
+                        seat,
+                        target,
+                        sender,
+                        own,
+                    },
                 });
             }
             let found = add_ref(&self.table.shared, &mut seat, seen);
             if found == seen {
                 return RefAnswer::Held(RefPass {
-                    seat,
-                    target,
-                    sender,
-                    own,
+                    hold: PassHold {
+                        seat,
+                        target,
+                        sender,
+                        own,
+                    },
                 });
             }
             seen = found;
@@ -84,44 +89,24 @@ impl<J: Meant> RefPass<J> {
         ensures no_memory { IfNoMemory result (λ pass back. IsRefPassOf post.now pass
             × (ref_view pass ≡ ref_view self) × (back ≡ job)) }
     {
-        let RefPass {
-            mut seat,
-            target,
-            sender,
-            mut own,
-        } = self;
+        let RefPass { mut hold } = self;
         let place = place_use.place;
-        let kept = &mut own[place as usize];
+        let kept = &mut hold.own[place as usize];
         match put_marked(
             rt,
             &post.table.shared,
-            &mut seat,
+            &mut hold.seat,
             kept,
             place,
             Mark {
-                sender,
+                sender: hold.sender,
                 seq: kept.len() as u64,
                 tag,
             },
             job,
         ) {
-            Ok(nth) => PutAnswer::Put(Owing {
-                seat,
-                target,
-                sender,
-                own,
-                place,
-                nth,
-            }),
-            Err(job) => PutAnswer::NoMemory(
-                RefPass {
-                    seat,
-                    target,
-                    sender,
-                    own,
-                },
-                job,
-            ),
+            Ok(nth) => PutAnswer::Put(Owing { hold, place, nth }),
+            Err(job) => PutAnswer::NoMemory(RefPass { hold }, job),
         }
     }
 
@@ -130,19 +115,9 @@ impl<J: Meant> RefPass<J> {
         requires table { IsRefPassOf post.now self }
         ensures { IsPassOf post.now result × (pass_view result ≡ at_phase Idle (ref_view self)) }
     {
-        let RefPass {
-            mut seat,
-            target,
-            sender,
-            own,
-        } = self;
-        drop_ref(&post.table.shared, &mut seat);
-        SendPass {
-            seat,
-            target,
-            sender,
-            own,
-        }
+        let RefPass { mut hold } = self;
+        drop_ref(&post.table.shared, &mut hold.seat);
+        SendPass { hold }
     }
 }
 
@@ -168,29 +143,15 @@ impl<J: Meant> Owing<J> {
             × (notice_view notice ≡ at_phase (Messenger (owing_place self)) (owing_view self))) }
     {
         let Owing {
-            mut seat,
-            target,
-            sender,
-            own,
+            mut hold,
             place,
             nth: _,
         } = self;
-        let found = swap_note(&post.table.shared, &mut seat, place);
+        let found = swap_note(&post.table.shared, &mut hold.seat, place);
         if found == PENDING {
-            return Notified::Quiet(RefPass {
-                seat,
-                target,
-                sender,
-                own,
-            });
+            return Notified::Quiet(RefPass { hold });
         }
-        Notified::Messenger(Notice {
-            seat,
-            target,
-            sender,
-            own,
-            place,
-        })
+        Notified::Messenger(Notice { hold, place })
     }
 }
 
@@ -201,21 +162,10 @@ impl<J: Meant> Notice<J> {
         ensures { IsRefPassOf post.now result
             × (ref_view result ≡ at_phase Referenced (notice_view self)) }
     {
-        let Notice {
-            mut seat,
-            target,
-            sender,
-            own,
-            place,
-        } = self;
-        if add_mail(&post.table.shared, &mut seat, place) == 0 {
+        let Notice { mut hold, place } = self;
+        if add_mail(&post.table.shared, &mut hold.seat, place) == 0 {
             post.waker.unpark();
         }
-        RefPass {
-            seat,
-            target,
-            sender,
-            own,
-        }
+        RefPass { hold }
     }
 }

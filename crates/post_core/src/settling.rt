@@ -37,8 +37,8 @@ impl<J: Meant> Owner<J> {
             × (owner_view self.new ≡ job_settled place nth Finished (owner_view self.old)) }
         ensures note { IsNoteOf post.now result × (note_view result ≡ noted (owner_view self.new)) }
     {
-        let note = settle(&post.table.shared, &mut self.seat, place, nth, fate);
-        keep_fate(&mut self.jobs, place, nth, fate);
+        let note = settle(&post.table.shared, &mut self.hold.seat, place, nth, fate);
+        keep_fate(&mut self.hold.jobs, place, nth, fate);
         SeenNote { seat: note }
     }
 }
@@ -54,8 +54,8 @@ impl<J: Meant> Exec<J> {
             × (exec_view self.new ≡ job_settled place nth Finished (exec_view self.old)) }
         ensures note { IsNoteOf post.now result × (note_view result ≡ noted (exec_view self.new)) }
     {
-        let note = settle(&post.table.shared, &mut self.seat, place, nth, fate);
-        keep_fate(&mut self.jobs, place, nth, fate);
+        let note = settle(&post.table.shared, &mut self.hold.seat, place, nth, fate);
+        keep_fate(&mut self.hold.jobs, place, nth, fate);
         SeenNote { seat: note }
     }
 }

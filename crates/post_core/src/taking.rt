@@ -47,7 +47,7 @@ impl<J: Meant> Exec<J> {
         ensures room { OnOk result (1 ≤ exec_room self.new) }
         ensures kept { IsSameExec self.old self.new }
     {
-        make_room(&mut self.jobs, self.place)
+        make_room(&mut self.hold.jobs, self.place)
     }
 
     /// Takes the first job that waits at the place, or finds as many taken as put. It waits for the turn.
@@ -57,46 +57,26 @@ impl<J: Meant> Exec<J> {
         ensures { IsTaken post.now (exec_place self) (exec_view self) result }
     {
         let Exec {
-            mut seat,
-            target,
-            mut jobs,
-            got,
-            parker,
+            mut hold,
             place,
             start,
         } = self;
-        match first_job(rt, &post.table.shared, &mut seat, place) {
+        match first_job(rt, &post.table.shared, &mut hold.seat, place) {
             Some((nth, Item { mark, job })) => {
                 let started = StartedJob {
                     mark,
                     started: start,
                     fate: None,
                 };
-                keep_started(&mut jobs, place, started);
+                keep_started(&mut hold.jobs, place, started);
                 Taken::Job {
-                    exec: Exec {
-                        seat,
-                        target,
-                        jobs,
-                        got,
-                        parker,
-                        place,
-                        start,
-                    },
+                    exec: Exec { hold, place, start },
                     nth,
                     mark,
                     job,
                 }
             }
-            None => Taken::Empty(SeenEmpty {
-                seat,
-                target,
-                jobs,
-                got,
-                parker,
-                place,
-                start,
-            }),
+            None => Taken::Empty(SeenEmpty { hold, place, start }),
         }
     }
 }
@@ -110,23 +90,13 @@ impl<J: Meant> SeenEmpty<J> {
             × (owner_view result ≡ at_serving (seen_place self) Away (seen_view self)) }
     {
         let SeenEmpty {
-            mut seat,
-            target,
-            jobs,
-            got,
-            parker,
+            mut hold,
             place,
             start,
         } = self;
         if let Started::Notice(_) = start {
-            finish_place(&post.table.shared, &mut seat, place);
+            finish_place(&post.table.shared, &mut hold.seat, place);
         }
-        Owner {
-            seat,
-            target,
-            jobs,
-            got,
-            parker,
-        }
+        Owner { hold }
     }
 }

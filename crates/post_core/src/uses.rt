@@ -173,34 +173,19 @@ impl<J: Meant> Post<J> {
             × (pass_sender back ≡ pass_sender pass)
             × IsAllFound (post_places self.now) (pass_view pass) (pass_view back)) }
     {
-        let SendPass {
-            mut seat,
-            target,
-            sender,
-            own,
-        } = pass;
-        cull_all(&self.table.shared, &mut seat, self.places);
-        match create_first(&self.table.shared, &mut seat, self.places) {
+        let SendPass { mut hold } = pass;
+        cull_all(&self.table.shared, &mut hold.seat, self.places);
+        match create_first(&self.table.shared, &mut hold.seat, self.places) {
             Some(place) => CreateAnswer::Made {
-                pass: SendPass {
-                    seat,
-                    target,
-                    sender,
-                    own,
-                },
                 place_use: PlaceUse {
                     target: self.target,
                     place,
-                    sender,
+                    sender: hold.sender,
                     marker: PhantomData,
                 },
+                pass: SendPass { hold },
             },
-            None => CreateAnswer::Full(SendPass {
-                seat,
-                target,
-                sender,
-                own,
-            }),
+            None => CreateAnswer::Full(SendPass { hold }),
         }
     }
 
@@ -217,21 +202,11 @@ impl<J: Meant> Post<J> {
         ensures { IsPassOf self.now result.0 × (result.1 ≡ place_use.now)
             × (pass_view result.0 ≡ use_cloned (use_place place_use.now) (pass_view pass)) }
     {
-        let SendPass {
-            mut seat,
-            target,
-            sender,
-            own,
-        } = pass;
+        let SendPass { mut hold } = pass;
         let place = place_use.place;
-        add_use(&self.table.shared, &mut seat, place);
+        add_use(&self.table.shared, &mut hold.seat, place);
         (
-            SendPass {
-                seat,
-                target,
-                sender,
-                own,
-            },
+            SendPass { hold },
             PlaceUse {
                 target: place_use.target,
                 place,
@@ -250,28 +225,15 @@ impl<J: Meant> Post<J> {
         ensures { IsPassOf self.now result.0
             × IsReleased (use_place place_use) (pass_view pass) result.1 (pass_view result.0) }
     {
-        let SendPass {
-            mut seat,
-            target,
-            sender,
-            own,
-        } = pass;
+        let SendPass { mut hold } = pass;
         let PlaceUse {
             target: _,
             place,
             sender: _,
             marker: _,
         } = place_use;
-        let released = release_use(&self.table.shared, &mut seat, place);
-        (
-            SendPass {
-                seat,
-                target,
-                sender,
-                own,
-            },
-            released,
-        )
+        let released = release_use(&self.table.shared, &mut hold.seat, place);
+        (SendPass { hold }, released)
     }
 }
 

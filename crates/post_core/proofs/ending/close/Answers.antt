@@ -11,11 +11,11 @@ use Rattle.post_core.proofs.ending.close.Goals as goal
 
 module _ (g : given.Over) (c : goal.After-discard g) where
   -- the owner's list has a member for each place
-  wide : length c.args.emptied.jobs.items ≡ c.args.post.places
+  wide : length c.args.emptied.hold.jobs.items ≡ c.args.post.places
   wide = let a = c.args.emptied.empty.1 in let b = ap (λ t. t.slots) c.requires.parts.owner in let d = c.args.post.sized.1 in omega arith
 
-  wide_taken : length (map (λ place. place.taken) c.args.emptied.jobs.items) ≡ c.args.post.places
-  wide_taken = length-map c.args.emptied.jobs.items (λ place. place.taken) ∙ wide
+  wide_taken : length (map (λ place. place.taken) c.args.emptied.hold.jobs.items) ≡ c.args.post.places
+  wide_taken = length-map c.args.emptied.hold.jobs.items (λ place. place.taken) ∙ wide
 
   count : length c.in-Ok.places.items ≡ c.args.post.places
   count = c.in-Ok.ensures.count ∙ wide
@@ -23,18 +23,18 @@ module _ (g : given.Over) (c : goal.After-discard g) where
   abbrev r : PostRecord
   r = record { target = c.args.post.target; places = c.in-Ok.places }
 
-  place_is : (p : ℕ) → p < c.args.post.places → jobs_of r p ≡ map held_record (listed (owner_of c.args.emptied.seat.me.0).jobs p)
+  place_is : (p : ℕ) → p < c.args.post.places → jobs_of r p ≡ map held_record (listed (owner_of c.args.emptied.hold.seat.me.0).jobs p)
   place_is p near = c.in-Ok.ensures.each p (let e = count in omega arith)
-      ∙ record_is (λ pass. pass.seat.me.0) (λ pass. map (λ kept. kept.items) pass.own.items) (λ pass. of_its_sender pass.is_pass) c.args.passes.items c.args.emptied.seat.me.0 (map (λ place. place.started.items) c.args.emptied.jobs.items) (map (λ place. place.taken) c.args.emptied.jobs.items) c.args.emptied.is_emptied c.args.post.senders c.args.post.places c.requires.parts.all c.discard.ensures wide_taken p near
+      ∙ record_is (λ pass. pass.hold.seat.me.0) (λ pass. map (λ kept. kept.items) pass.hold.own.items) (λ pass. of_its_sender pass.is_pass) c.args.passes.items c.args.emptied.hold.seat.me.0 (map (λ place. place.started.items) c.args.emptied.hold.jobs.items) (map (λ place. place.taken) c.args.emptied.hold.jobs.items) c.args.emptied.is_emptied c.args.post.senders c.args.post.places c.requires.parts.all c.discard.ensures wide_taken p near
 
 pub returns-in-Ok-clause-owner : goal.returns-in-Ok-clause-owner
 returns-in-Ok-clause-owner g c p near = place_is g c p near
 
 pub returns-in-Ok-clause-lawful : goal.returns-in-Ok-clause-lawful
-returns-in-Ok-clause-lawful g c = lawful (λ pass. pass.seat.me.0) (λ pass. map (λ kept. kept.items) pass.own.items) (λ pass. of_its_sender pass.is_pass) c.args.passes.items c.args.emptied.seat.me.0 (map (λ place. place.started.items) c.args.emptied.jobs.items) (map (λ place. place.taken) c.args.emptied.jobs.items) c.args.emptied.is_emptied c.args.post.senders c.args.post.places c.requires.parts.all c.discard.ensures (wide_taken g c) c.requires.settled (r g c) (count g c) (place_is g c)
+returns-in-Ok-clause-lawful g c = lawful (λ pass. pass.hold.seat.me.0) (λ pass. map (λ kept. kept.items) pass.hold.own.items) (λ pass. of_its_sender pass.is_pass) c.args.passes.items c.args.emptied.hold.seat.me.0 (map (λ place. place.started.items) c.args.emptied.hold.jobs.items) (map (λ place. place.taken) c.args.emptied.hold.jobs.items) c.args.emptied.is_emptied c.args.post.senders c.args.post.places c.requires.parts.all c.discard.ensures (wide_taken g c) c.requires.settled (r g c) (count g c) (place_is g c)
 
 pub returns-in-Ok-clause-passes : goal.returns-in-Ok-clause-passes
-returns-in-Ok-clause-passes g c k d near = agrees (λ pass. pass.seat.me.0) (λ pass. map (λ kept. kept.items) pass.own.items) (λ pass. of_its_sender pass.is_pass) c.args.passes.items c.args.emptied.seat.me.0 (map (λ place. place.started.items) c.args.emptied.jobs.items) (map (λ place. place.taken) c.args.emptied.jobs.items) c.args.emptied.is_emptied c.args.post.senders c.args.post.places c.requires.parts.all c.discard.ensures (wide_taken g c) c.requires.settled (r g c) (count g c) (place_is g c) k (get_or c.args.passes.items k d) (at_get c.args.passes.items k d near)
+returns-in-Ok-clause-passes g c k d near = agrees (λ pass. pass.hold.seat.me.0) (λ pass. map (λ kept. kept.items) pass.hold.own.items) (λ pass. of_its_sender pass.is_pass) c.args.passes.items c.args.emptied.hold.seat.me.0 (map (λ place. place.started.items) c.args.emptied.hold.jobs.items) (map (λ place. place.taken) c.args.emptied.hold.jobs.items) c.args.emptied.is_emptied c.args.post.senders c.args.post.places c.requires.parts.all c.discard.ensures (wide_taken g c) c.requires.settled (r g c) (count g c) (place_is g c) k (get_or c.args.passes.items k d) (at_get c.args.passes.items k d near)
 
 pub returns-in-Ok-clause-found : goal.returns-in-Ok-clause-found
-returns-in-Ok-clause-found g c each k d near = found (λ pass. pass.seat.me.0) (λ pass. map (λ kept. kept.items) pass.own.items) (λ pass. of_its_sender pass.is_pass) c.args.passes.items c.args.emptied.seat.me.0 (map (λ place. place.started.items) c.args.emptied.jobs.items) (map (λ place. place.taken) c.args.emptied.jobs.items) c.args.emptied.is_emptied c.args.post.senders c.args.post.places c.requires.parts.all c.discard.ensures (wide_taken g c) each k (get_or c.args.passes.items k d) (at_get c.args.passes.items k d near)
+returns-in-Ok-clause-found g c each k d near = found (λ pass. pass.hold.seat.me.0) (λ pass. map (λ kept. kept.items) pass.hold.own.items) (λ pass. of_its_sender pass.is_pass) c.args.passes.items c.args.emptied.hold.seat.me.0 (map (λ place. place.started.items) c.args.emptied.hold.jobs.items) (map (λ place. place.taken) c.args.emptied.hold.jobs.items) c.args.emptied.is_emptied c.args.post.senders c.args.post.places c.requires.parts.all c.discard.ensures (wide_taken g c) each k (get_or c.args.passes.items k d) (at_get c.args.passes.items k d near)

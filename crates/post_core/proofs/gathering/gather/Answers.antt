@@ -29,13 +29,13 @@ one_more f xs all x rhs n wide is each here p near =
     ])
 
 pub place_jobs-requires-clause-first : goal.place_jobs-requires-clause-first
-place_jobs-requires-clause-first g c = kept_first c.args.emptied.now.jobs.items c.loop-place.place c.kept-item.result (omega arith) (cc) c.args.emptied.now.seat.me.0 c.args.emptied.now.is_emptied
+place_jobs-requires-clause-first g c = kept_first c.args.emptied.now.hold.jobs.items c.loop-place.place c.kept-item.result (omega arith) (cc) c.args.emptied.now.hold.seat.me.0 c.args.emptied.now.is_emptied
 
 pub loop-place-preserved : goal.loop-place-preserved
 loop-place-preserved g c =
-    let jobs = c.args.emptied.now.jobs.items in
+    let jobs = c.args.emptied.now.hold.jobs.items in
     let near : c.loop-place.place < length jobs = omega arith in let is : c.kept-item.result ≡ get_or jobs c.loop-place.place c.kept-item.result = cc in
-    let owns : ℕ → List (List OwnMark) = λ p. map (λ pass. listed (map (λ own. own.items) pass.own.items) p) c.args.passes.now.items in record {
+    let owns : ℕ → List (List OwnMark) = λ p. map (λ pass. listed (map (λ own. own.items) pass.hold.own.items) p) c.args.passes.now.items in record {
       count = let a = c.loop-place.invariant.count in ap length c.in_ok-push.ensures.items ∙ omega (arith, length-append c.loop-place.places.items (record { jobs = c.in_ok-jobs.jobs } ∷ []));
       each = one_more (λ place. place.jobs.items) c.loop-place.places.items c.push.new.self.items (record { jobs = c.in_ok-jobs.jobs })
           (λ p. place_record (listed (map (λ (place : PlaceJobs). place.started.items) jobs) p) (get_or (map (λ (place : PlaceJobs). place.taken) jobs) p 0) (owns p))

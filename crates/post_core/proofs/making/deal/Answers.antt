@@ -39,8 +39,8 @@ loop-sender-preserved g c =
       view = c.split_seat-dealt.ensures.2 ∙ (λ i. (dealt_is places c.loop-sender.sender c.args.senders (omega arith) c.loop-sender.seat.me.0 (ap (λ me. me.0) c.loop-sender.invariant.view) i, ap (λ me. me.1) c.loop-sender.invariant.view i));
       count = let a = c.in-Some.ensures.cases in let b = c.loop-sender.invariant.count in omega arith;
       owns = last.0;
-      dealt = dealt_more (λ pass. pass.seat.me.0) places c.loop-sender.sender c.loop-sender.passes.items c.push_reserved.new.self.items _ c.push_reserved.ensures.items
+      dealt = dealt_more (λ pass. pass.hold.seat.me.0) places c.loop-sender.sender c.loop-sender.passes.items c.push_reserved.new.self.items _ c.push_reserved.ensures.items
           (ap (λ me. me.0) c.split_seat-dealt.ensures.4 ∙ first_is places c.loop-sender.sender c.args.senders (omega arith) c.loop-sender.seat.me.0 (ap (λ me. me.0) c.loop-sender.invariant.view)) c.loop-sender.invariant.dealt;
-      tables = subst (λ ps. All (λ pass. pass.seat.table_id ≡ c.args.shared.now.table_id) ps) (sym c.push_reserved.ensures.items) (All-push (λ pass. pass.seat.table_id ≡ c.args.shared.now.table_id) c.loop-sender.passes.items _ c.loop-sender.invariant.tables (c.split_seat-dealt.ensures.3 ∙ (c.loop-sender.invariant.table ∙ c.requires.table.0)));
+      tables = subst (λ ps. All (λ pass. pass.hold.seat.table_id ≡ c.args.shared.now.table_id) ps) (sym c.push_reserved.ensures.items) (All-push (λ pass. pass.hold.seat.table_id ≡ c.args.shared.now.table_id) c.loop-sender.passes.items _ c.loop-sender.invariant.tables (c.split_seat-dealt.ensures.3 ∙ (c.loop-sender.invariant.table ∙ c.requires.table.0)));
       room = let a = c.loop-sender.invariant.room in let b = c.push_reserved.ensures.capacity in omega arith;
     }

@@ -11,29 +11,29 @@ use Rattle.post_core.proofs.owner.Exec.take.Goals as goal
 
 pub invariant_of-result : goal.invariant_of-result
 invariant_of-result g c =
-    let started = map (λ place. place.started.items) c.args.self.jobs.items in
-    let taken = map (λ place. place.taken) c.args.self.jobs.items in
+    let started = map (λ place. place.started.items) c.args.self.hold.jobs.items in
+    let taken = map (λ place. place.taken) c.args.self.hold.jobs.items in
     let p = c.args.self.place in
     let entry : Entry g.row.J-Meaning.Denot = record { mark = c.in-Some.field-0-1.mark; meaning = g.J.Meant.meaning c.in-Some.field-0-1.job } in
     let me_is = c.in-Some.ensures.job in
     record {
-      is_exec = subst (IsOwnerAt p (serving_of c.args.self.start) (map (λ place. place.started.items) c.keep_started.new.jobs.items) (map (λ place. place.taken) c.keep_started.new.jobs.items) c.args.self.got) (sym (ap (λ me. me.0) me_is))
-          (subst (λ kept. IsOwnerAt p (serving_of c.args.self.start) kept (map (λ place. place.taken) c.keep_started.new.jobs.items) c.args.self.got (job_started p entry c.args.self.seat.me.0)) (sym c.keep_started.ensures.started)
-          (subst (λ counts. IsOwnerAt p (serving_of c.args.self.start) (slice_set started p (listed started p ++ record { mark = c.in-Some.field-0-1.mark; started = c.args.self.start; fate = None } ∷ [])) counts c.args.self.got (job_started p entry c.args.self.seat.me.0)) (sym c.keep_started.ensures.taken)
-          (starts_job started taken c.args.self.got p (let a = c.args.self.empty.1 in let b = c.args.self.near in omega (arith, length-map c.args.self.jobs.items (λ place. place.taken))) c.args.self.start c.args.self.runs c.args.self.seat.me.0 c.args.self.is_exec entry (length-map c.args.self.jobs.items (λ place. place.started.items) ∙ sym (length-map c.args.self.jobs.items (λ place. place.taken))))));
+      is_exec = subst (IsOwnerAt p (serving_of c.args.self.start) (map (λ place. place.started.items) c.keep_started.new.jobs.items) (map (λ place. place.taken) c.keep_started.new.jobs.items) c.args.self.hold.got) (sym (ap (λ me. me.0) me_is))
+          (subst (λ kept. IsOwnerAt p (serving_of c.args.self.start) kept (map (λ place. place.taken) c.keep_started.new.jobs.items) c.args.self.hold.got (job_started p entry c.args.self.hold.seat.me.0)) (sym c.keep_started.ensures.started)
+          (subst (λ counts. IsOwnerAt p (serving_of c.args.self.start) (slice_set started p (listed started p ++ record { mark = c.in-Some.field-0-1.mark; started = c.args.self.start; fate = None } ∷ [])) counts c.args.self.hold.got (job_started p entry c.args.self.hold.seat.me.0)) (sym c.keep_started.ensures.taken)
+          (starts_job started taken c.args.self.hold.got p (let a = c.args.self.empty.1 in let b = c.args.self.near in omega (arith, length-map c.args.self.hold.jobs.items (λ place. place.taken))) c.args.self.start c.args.self.runs c.args.self.hold.seat.me.0 c.args.self.is_exec entry (length-map c.args.self.hold.jobs.items (λ place. place.started.items) ∙ sym (length-map c.args.self.hold.jobs.items (λ place. place.taken))))));
       runs = c.args.self.runs;
-      empty = (ap (λ me. me.1) me_is, sym (length-map c.keep_started.new.jobs.items (λ place. place.taken)) ∙ (ap length c.keep_started.ensures.taken ∙ (length-set taken p (slice_index taken p + 1) ∙ (length-map c.args.self.jobs.items (λ place. place.taken) ∙ (c.args.self.empty.1 ∙ ap (λ t. t.slots) (sym c.in-Some.ensures.seat.0))))));
+      empty = (ap (λ me. me.1) me_is, sym (length-map c.keep_started.new.jobs.items (λ place. place.taken)) ∙ (ap length c.keep_started.ensures.taken ∙ (length-set taken p (slice_index taken p + 1) ∙ (length-map c.args.self.hold.jobs.items (λ place. place.taken) ∙ (c.args.self.empty.1 ∙ ap (λ t. t.slots) (sym c.in-Some.ensures.seat.0))))));
       near = subst (λ t. p < t.slots) (sym c.in-Some.ensures.seat.0) c.args.self.near;
     }
 
 pub invariant_of-result-in-None : goal.invariant_of-result-in-None
 invariant_of-result-in-None g c =
-    let started = map (λ place. place.started.items) c.args.self.jobs.items in
-    let taken = map (λ place. place.taken) c.args.self.jobs.items in
+    let started = map (λ place. place.started.items) c.args.self.hold.jobs.items in
+    let taken = map (λ place. place.taken) c.args.self.hold.jobs.items in
     let me_is = c.in-None.ensures.none refl in
     record {
-      is_seen = subst (IsOwnerAt c.args.self.place (serving_after_look (serving_of c.args.self.start)) started taken c.args.self.got) (sym (ap (λ me. me.0) me_is))
-          (empties started taken c.args.self.got c.args.self.place (let a = c.args.self.empty.1 in let b = c.args.self.near in omega (arith, length-map c.args.self.jobs.items (λ place. place.taken))) (serving_of c.args.self.start) c.args.self.seat.me.0 c.args.self.is_exec);
+      is_seen = subst (IsOwnerAt c.args.self.place (serving_after_look (serving_of c.args.self.start)) started taken c.args.self.hold.got) (sym (ap (λ me. me.0) me_is))
+          (empties started taken c.args.self.hold.got c.args.self.place (let a = c.args.self.empty.1 in let b = c.args.self.near in omega (arith, length-map c.args.self.hold.jobs.items (λ place. place.taken))) (serving_of c.args.self.start) c.args.self.hold.seat.me.0 c.args.self.is_exec);
       runs = c.args.self.runs;
       empty = (ap (λ me. me.1) me_is, c.args.self.empty.1 ∙ ap (λ t. t.slots) (sym c.first_job.ensures.seat.0));
       near = subst (λ t. c.args.self.place < t.slots) (sym c.first_job.ensures.seat.0) c.args.self.near;

@@ -9,5 +9,5 @@ join_seat-requires g c =
       c.requires.table.1,
       c.args.note.is_note.1,
       (let a = c.args.post.now.sized.0 in omega arith),
-      joins g.J.Meant.meaning (g.J.Meant.suits key.target) key.senders key.places c.args.self.seat.id c.args.note.seat.id c.args.self.seat.me.0 c.args.note.seat.me.0 (ap (λ v. v.owner) c.args.note.is_note.0),
+      joins g.J.Meant.meaning (g.J.Meant.suits key.target) key.senders key.places c.args.self.hold.seat.id c.args.note.seat.id c.args.self.hold.seat.me.0 c.args.note.seat.me.0 (ap (λ v. v.owner) c.args.note.is_note.0),
     )
