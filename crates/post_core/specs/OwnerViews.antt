@@ -1,6 +1,6 @@
 -- What an owner's parts show of its view.
 use Rattle.std.specs.Prelude.{◌-◌, Option, Some, None, length, slice_get, vec_capacity}
-use Rattle.post_core.specs.declared.owner.PlaceJobs.{PlaceJobs}
+use Rattle.post_core.specs.declared.records.PlaceJobs.{PlaceJobs}
 use Rattle.post_core.specs.declared.owner.Taken.{Taken}
 use Rattle.post_core.specs.declared.owner.Taken.TheVariants as taken
 use Rattle.post_core.specs.Kept.{listed}

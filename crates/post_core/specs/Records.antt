@@ -7,6 +7,7 @@ use Rattle.proxy_laws.specs.declared.records.JobRecord.{JobRecord}
 use Rattle.proxy_laws.specs.declared.records.Mark.{Mark}
 use Rattle.proxy_laws.specs.declared.records.Started.TheVariants as started
 use Rattle.proxy_laws.specs.declared.records.OwnMark.{OwnMark}
+use Rattle.post_core.specs.declared.records.PlaceJobs.{PlaceJobs}
 use Rattle.post_core.specs.declared.records.StartedJob.{StartedJob}
 use Rattle.post_core.specs.declared.views.Entry.{Entry}
 use Rattle.post_core.specs.declared.views.Held.{Held}
@@ -43,6 +44,13 @@ record_of job = record { mark = job.mark; started = job.started; fate = fate_or_
 -- the records of a place where so many jobs were taken, of which the owner keeps the first
 abbrev pub place_record : List StartedJob → ℕ → List (List OwnMark) → List JobRecord
 place_record kept_jobs taken owns = filled_by_all (map record_of kept_jobs ++ replicate (taken - length kept_jobs) blank_job) owns
+
+-- by place: the jobs that the owner took before it closed, and how many it took in all
+abbrev pub starts_of : List PlaceJobs → List (List StartedJob)
+starts_of jobs = map (λ place. place.started.items) jobs
+
+abbrev pub counts_of : List PlaceJobs → List ℕ
+counts_of jobs = map (λ place. place.taken) jobs
 
 module _ {M : Type 0} where
   abbrev pub own_mark : Kept M → OwnMark

@@ -1,5 +1,5 @@
 -- What each step of a sender tells the seat of its pass.
-use Rattle.std.specs.Prelude.{◌≡◌, ◌≢◌, ℕ, ◌+◌, ◌<◌, ◌≤◌, Bool, true, false, Option, Some, None, List, [], ◌∷◌, ◌++◌, slice_set}
+use Rattle.std.specs.Prelude.{◌≡◌, ◌≢◌, ℕ, ◌+◌, ◌<◌, ◌≤◌, Bool, true, false, Option, Some, None, List, [], ◌∷◌, ◌++◌, length, slice_set}
 use Rattle.std.specs.List.{list_any}
 use mathlib.Core.Option.{some}
 use lib.ListN.{get_elem?}
@@ -8,6 +8,7 @@ use Rattle.task_ring.specs.Ring.{RingView}
 use Rattle.proxy_laws.specs.declared.actors.Note.{Note}
 use Rattle.proxy_laws.specs.declared.actors.Phase.TheVariants as phase
 use Rattle.proxy_laws.specs.declared.records.FateMark.TheVariants as fate
+use Rattle.proxy_laws.specs.declared.records.Mark.{Mark}
 use Rattle.proxy_laws.specs.Phases.{note_word, phase_after_give, phase_after_swap}
 use Rattle.post_core.specs.declared.slots.Item.{Item}
 use Rattle.post_core.specs.declared.views.Entry.{Entry}
@@ -61,6 +62,10 @@ module _ {M : Type 0} where
     seen = v.seen ++ fact.Reached p (n + 1) ∷ [];
   }
 
+  -- the mark is that of the pass's next job at p
+  abbrev pub IsNextMark : ℕ → Mark → View M → Type 0
+  IsNextMark p mark v = (mark.sender ≡ (pass_of v).number) × (mark.seq ≡ length (listed (pass_of v).own p))
+
   -- The number n comes after each number that the pass keeps of a job at p, and no count of the jobs put at p that the
   -- pass has seen is greater.
   pub record IsNextAt (p n : ℕ) (v : View M) : Type 0 where
@@ -104,9 +109,13 @@ module _ {J M : Type 0} (meaning : J → M) where
   abbrev pub meant_item : Item J → Entry M
   meant_item item = record { mark = item.mark; meaning = meaning item.job }
 
+  -- a pass has taken the turn of p, with its ring
+  abbrev pub SenderHasTurn : ℕ → Me (RingView (Item J)) (View M) → Me (RingView (Item J)) (View M) → Type 0
+  SenderHasTurn p m m' = (ring : RingView (Item J)) × (m' ≡ (place_taken p (all_meant meaning ring.items) m.0, (p, ring) ∷ m.1))
+
   -- a pass tries to take the turn of p, and has its ring where that was free
   abbrev pub sender_took_place : ℕ → Step (RingView (Item J)) → Me (RingView (Item J)) (View M) → ℕ → Me (RingView (Item J)) (View M) → Type 0
-  sender_took_place p st m found m' = (found ≡ 0 → (ring : RingView (Item J)) × (m' ≡ (place_taken p (all_meant meaning ring.items) m.0, (p, ring) ∷ m.1))) × (found ≢ 0 → m' ≡ m)
+  sender_took_place p st m found m' = (found ≡ 0 → SenderHasTurn p m m') × (found ≢ 0 → m' ≡ m)
 
   -- a pass counts the job that it pushed into p's ring as put
   abbrev pub counted_put : ℕ → Step (RingView (Item J)) → Me (RingView (Item J)) (View M) → ℕ → Me (RingView (Item J)) (View M) → Type 0

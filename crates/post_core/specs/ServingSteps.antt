@@ -1,10 +1,10 @@
 -- The owner's steps at a place: the views after them, and what each tells.
-use Rattle.std.specs.Prelude.{◌≡◌, ℕ, ◌+◌, None, [], ◌∷◌, ◌++◌, length, slice_index, slice_index_or, slice_set}
+use Rattle.std.specs.Prelude.{◌≡◌, ℕ, ◌+◌, IsTrue, None, [], ◌∷◌, ◌++◌, length, slice_index, slice_index_or, slice_set}
 use Rattle.atomic_table.specs.Table.{Me, Step}
 use Rattle.task_ring.specs.Ring.{RingView}
 use Rattle.proxy_laws.specs.declared.actors.Serving.{Serving}
 use Rattle.proxy_laws.specs.declared.actors.Serving.TheVariants as serving
-use Rattle.proxy_laws.specs.Phases.{serving_after_look, serving_after_receive}
+use Rattle.proxy_laws.specs.Phases.{is_working, serving_after_look, serving_after_receive}
 use Rattle.proxy_laws.specs.Lists.{start_under}
 use Rattle.post_core.specs.declared.slots.Item.{Item}
 use Rattle.post_core.specs.declared.views.Entry.{Entry}
@@ -17,6 +17,10 @@ module _ {M : Type 0} where
   -- what the owner does at p, as its view has it
   abbrev pub serving_at : ℕ → View M → Serving
   serving_at p v = slice_index_or (owner_of v).serving p serving.Away
+
+  -- the owner may take jobs of p
+  abbrev pub WorksAt : ℕ → View M → Type 0
+  WorksAt p v = IsTrue (is_working (owner_of v).state (serving_at p v))
 
   -- the owner comes to do this at p
   abbrev pub at_serving : ℕ → Serving → View M → View M

@@ -1,6 +1,6 @@
 //! The end of a target: its table is taken down, and its record made.
 
-ghost use Rattle.std.specs.Prelude.{◌≡◌, ℕ, ◌<◌, All, map, length, IfOk, IfErr, []};
+ghost use Rattle.std.specs.Prelude.{◌≡◌, ℕ, ◌<◌, All, map, length, IfOk, IfErr};
 ghost use Rattle.std.specs.Slots.{slots_items, IsFull};
 ghost use Rattle.proxy_laws.specs.Fates.{LawfulPost, jobs_of};
 ghost use Rattle.post_core.specs.Ending.{AgreesWithPass, AreAllParts, AreEach, Ended, FoundTaken, IsIdle, all_joined};
@@ -131,7 +131,8 @@ pub fn close<J: Meant>(
         × (length r.places.items ≡ post_places post)) }
     ensures owner { IfOk result (λ r. (p : ℕ) → p < post_places post
         → jobs_of r p ≡ map held_record (listed (owner_of (emptied_view emptied)).jobs p)) }
-    ensures passes { IfOk result (λ r. All (λ pass. AgreesWithPass r (pass_view pass)) passes.items) }
+    ensures passes { IfOk result
+        (λ r. All (λ pass. AgreesWithPass r (pass_view pass)) passes.items) }
     ensures found { AreEach (post_senders post) (map (λ pass. pass_sender pass) passes.items)
         → IfOk result (λ r. All (λ pass. FoundTaken
         (map (λ other. pass_view other) passes.items) (pass_view pass)) passes.items) }

@@ -1,13 +1,12 @@
 //! The owner takes the first job that waits at a place, under the turn, or finds none.
 
-ghost use Rattle.std.specs.Prelude.{◌≡◌, ◌<◌, ◌∷◌, IsTrue, IsNone, IfSome, None, [], length};
-ghost use Rattle.task_ring.specs.Ring.{RingView};
-ghost use Rattle.proxy_laws.specs.Phases.{is_working};
+ghost use Rattle.std.specs.Prelude.{◌≡◌, ◌<◌, IsNone, IfSome, None, [], length};
 ghost use Rattle.post_core.specs.declared.slots.Item.{Item};
 ghost use Rattle.post_core.specs.Kept.{listed};
-ghost use Rattle.post_core.specs.ServingSteps.{job_started, place_emptied, serving_at};
-ghost use Rattle.post_core.specs.Steps.{IsOneTable, all_meant};
-ghost use Rattle.post_core.specs.Views.{IsOwnerView, owner_of, turn_taken};
+ghost use Rattle.post_core.specs.SendSteps.{meant_item};
+ghost use Rattle.post_core.specs.ServingSteps.{WorksAt, job_started, place_emptied};
+ghost use Rattle.post_core.specs.Steps.{HasTakenTurn, IsOneTable};
+ghost use Rattle.post_core.specs.Views.{IsOwnerView, owner_of};
 
 use crate::job_steps::start_job;
 use crate::meant::Meant;
@@ -30,9 +29,9 @@ fn take_turn<J: Meant, R: Wait>(
     requires table { IsOneTable seat.old.table_id shared.now.table_id shared.now.key.places }
     requires near { place < shared.now.key.places }
     requires owner { IsOwnerView seat.old.me.0 × ((owner_of seat.old.me.0).turn ≡ None) }
-    requires works { IsTrue (is_working (owner_of seat.old.me.0).state (serving_at place seat.old.me.0)) }
+    requires works { WorksAt place seat.old.me.0 }
     ensures seat { (seat.new.table_id ≡ seat.old.table_id) × (seat.new.id ≡ seat.old.id) }
-    ensures taken { (ring : RingView (Item J)) × (seat.new.me ≡ (turn_taken place (all_meant J.meaning ring.items) seat.old.me.0, (place, ring) ∷ seat.old.me.1)) }
+    ensures taken { HasTakenTurn J.meaning place seat.old.me seat.new.me }
 {
     for _ in rt.forever() {
         if try_place(shared, seat, place) == 0 {
@@ -52,12 +51,14 @@ pub(crate) fn first_job<J: Meant, R: Wait>(
     requires table { IsOneTable seat.old.table_id shared.now.table_id shared.now.key.places }
     requires near { place < shared.now.key.places }
     requires owner { IsOwnerView seat.old.me.0 × ((owner_of seat.old.me.0).turn ≡ None) }
-    requires works { IsTrue (is_working (owner_of seat.old.me.0).state (serving_at place seat.old.me.0)) }
+    requires works { WorksAt place seat.old.me.0 }
     requires empty { seat.old.me.1 ≡ [] }
     ensures seat { (seat.new.table_id ≡ seat.old.table_id) × (seat.new.id ≡ seat.old.id) }
     ensures nth { IfSome result (λ x. x.0 ≡ length (listed (owner_of seat.old.me.0).jobs place)) }
-    ensures suits { IfSome result (λ x. J.suits shared.now.key.target place x.1.mark (J.meaning x.1.job)) }
-    ensures job { IfSome result (λ x. seat.new.me ≡ (job_started place (record { mark = x.1.mark; meaning = J.meaning x.1.job }) seat.old.me.0, [])) }
+    ensures suits { IfSome result
+        (λ x. J.suits shared.now.key.target place x.1.mark (J.meaning x.1.job)) }
+    ensures job { IfSome result (λ x. seat.new.me
+        ≡ (job_started place (meant_item J.meaning x.1) seat.old.me.0, [])) }
     ensures none { IsNone result → seat.new.me ≡ (place_emptied place seat.old.me.0, []) }
 {
     take_turn(rt, shared, seat, place);

@@ -1,13 +1,13 @@
 //! The record of a closed target, before its table is taken down.
 
-ghost use Rattle.std.specs.Prelude.{◌≡◌, ℕ, ◌<◌, ◌≤◌, map, length, slice_index, All, IfOk, [], ◌++◌, ◌-◌, replicate};
+ghost use Rattle.std.specs.Prelude.{◌≡◌, ℕ, ◌<◌, ◌≤◌, map, length, slice_index, All, IfOk, ◌++◌, ◌-◌, replicate};
 ghost use Rattle.post_core.specs.Kept.{listed};
-ghost use Rattle.post_core.specs.Records.{place_record, record_of, blank_job};
+ghost use Rattle.post_core.specs.Records.{blank_job, counts_of, place_record, record_of, starts_of};
 
 use crate::meant::Meant;
-use crate::owner::{Emptied, PlaceJobs};
+use crate::owner::Emptied;
 use crate::post::SendPass;
-use crate::records::fill;
+use crate::records::{PlaceJobs, fill};
 use proxy_laws::{FateMark, JobRecord, Mark, PlaceRecord, Started};
 use std::alloc::{AllocError, Global};
 
@@ -24,7 +24,8 @@ const BLANK: JobRecord = JobRecord {
 // The records of a place's jobs, of which those of a closed owner have no marks yet.
 fn begin(alloc: Global, kept: &PlaceJobs) -> Result<Vec<JobRecord>, AllocError>
     requires { length kept.now.started.items ≤ kept.now.taken }
-    ensures { IfOk result (λ jobs. jobs.items ≡ map record_of kept.now.started.items ++ replicate (kept.now.taken - length kept.now.started.items) blank_job) }
+    ensures { IfOk result (λ jobs. jobs.items ≡ map record_of kept.now.started.items
+        ++ replicate (kept.now.taken - length kept.now.started.items) blank_job) }
 {
     let mut jobs = Vec::new(alloc);
     for job in &kept.started {
@@ -54,7 +55,9 @@ fn place_jobs<J: Meant>(
 ) -> Result<Vec<JobRecord>, AllocError>
     requires first { length kept.now.started.items ≤ kept.now.taken }
     requires wide { All (λ pass. place < length pass.hold.own.items) passes.now.items }
-    ensures { IfOk result (λ jobs. jobs.items ≡ place_record kept.now.started.items kept.now.taken (map (λ pass. listed (map (λ own. own.items) pass.hold.own.items) place) passes.now.items)) }
+    ensures { IfOk result (λ jobs. jobs.items ≡ place_record kept.now.started.items kept.now.taken
+        (map (λ pass. listed (map (λ own. own.items) pass.hold.own.items) place)
+        passes.now.items)) }
 {
     let mut jobs = begin(alloc, kept)?;
     for pass in passes {
@@ -69,10 +72,15 @@ pub(crate) fn gather<J: Meant>(
     emptied: &Emptied<J>,
     passes: &Vec<SendPass<J>>,
 ) -> Result<Vec<PlaceRecord>, AllocError>
-    requires { All (λ pass. pass.hold.seat.table_id ≡ emptied.now.hold.seat.table_id) passes.now.items }
-    ensures count { IfOk result (λ places. length places.items ≡ length emptied.now.hold.jobs.items) }
+    requires { All (λ pass. pass.hold.seat.table_id ≡ emptied.now.hold.seat.table_id)
+        passes.now.items }
+    ensures count { IfOk result
+        (λ places. length places.items ≡ length emptied.now.hold.jobs.items) }
     ensures each { IfOk result (λ places. (p : ℕ) → p < length places.items
-        → listed (map (λ place. place.jobs.items) places.items) p ≡ place_record (listed (map (λ place. place.started.items) emptied.now.hold.jobs.items) p) (slice_index (map (λ place. place.taken) emptied.now.hold.jobs.items) p) (map (λ pass. listed (map (λ own. own.items) pass.hold.own.items) p) passes.now.items)) }
+        → listed (map (λ place. place.jobs.items) places.items) p ≡ place_record
+        (listed (starts_of emptied.now.hold.jobs.items) p)
+        (slice_index (counts_of emptied.now.hold.jobs.items) p)
+        (map (λ pass. listed (map (λ own. own.items) pass.hold.own.items) p) passes.now.items)) }
 {
     let mut places = Vec::new(alloc);
     for (place, kept) in emptied.hold.jobs.iter().enumerate() {

@@ -1,11 +1,9 @@
 //! The step by which the owner takes a job.
 
-ghost use Rattle.std.specs.Prelude.{◌≡◌, ℕ, ◌∷◌, ◌<◌, IsTrue, Some, List, length};
-ghost use Rattle.proxy_laws.specs.Phases.{is_working};
-ghost use Rattle.post_core.specs.declared.views.Entry.{Entry};
+ghost use Rattle.std.specs.Prelude.{◌≡◌, ℕ, ◌<◌, Some, length};
 ghost use Rattle.post_core.specs.Kept.{listed};
-ghost use Rattle.post_core.specs.ServingSteps.{serving_at};
-ghost use Rattle.post_core.specs.Steps.{IsOneTable, took_job};
+ghost use Rattle.post_core.specs.ServingSteps.{WorksAt};
+ghost use Rattle.post_core.specs.Steps.{FirstSuits, IsOneTable, took_job};
 ghost use Rattle.post_core.specs.Views.{IsOwnerView, job_taken, owner_of};
 ghost use Rattle.post_core.specs.Words.{place_from, taken_at};
 
@@ -43,11 +41,11 @@ fn start_job_as<J: Meant, P: AtTarget>(
     requires table { IsOneTable seat.old.table_id shared.now.table_id shared.now.key.places }
     requires near { (shared.now.key.target ≡ P.target) × (place < shared.now.key.places) }
     requires owner { IsOwnerView seat.old.me.0 × ((owner_of seat.old.me.0).turn ≡ Some place) }
-    requires works { IsTrue (is_working (owner_of seat.old.me.0).state (serving_at place seat.old.me.0)) }
+    requires works { WorksAt place seat.old.me.0 }
     requires waits { 0 < length (owner_of seat.old.me.0).ring }
     ensures seat { (seat.new.table_id ≡ seat.old.table_id) × (seat.new.id ≡ seat.old.id) }
     ensures nth { result ≡ length (listed (owner_of seat.old.me.0).jobs place) }
-    ensures suits { (e : Entry J.Meaning) (rest : List (Entry J.Meaning)) → (owner_of seat.old.me.0).ring ≡ e ∷ rest → J.suits shared.now.key.target place e.mark e.meaning }
+    ensures suits { FirstSuits (J.suits shared.now.key.target place) (owner_of seat.old.me.0).ring }
     ensures taken { seat.new.me ≡ (job_taken place seat.old.me.0, seat.old.me.1) }
 {
     shared.fetch_add::<TakeJob<P>>(seat, 262 + 5 * place as usize, 1)
@@ -62,11 +60,11 @@ pub(crate) fn start_job<J: Meant>(
     requires table { IsOneTable seat.old.table_id shared.now.table_id shared.now.key.places }
     requires near { place < shared.now.key.places }
     requires owner { IsOwnerView seat.old.me.0 × ((owner_of seat.old.me.0).turn ≡ Some place) }
-    requires works { IsTrue (is_working (owner_of seat.old.me.0).state (serving_at place seat.old.me.0)) }
+    requires works { WorksAt place seat.old.me.0 }
     requires waits { 0 < length (owner_of seat.old.me.0).ring }
     ensures seat { (seat.new.table_id ≡ seat.old.table_id) × (seat.new.id ≡ seat.old.id) }
     ensures nth { result ≡ length (listed (owner_of seat.old.me.0).jobs place) }
-    ensures suits { (e : Entry J.Meaning) (rest : List (Entry J.Meaning)) → (owner_of seat.old.me.0).ring ≡ e ∷ rest → J.suits shared.now.key.target place e.mark e.meaning }
+    ensures suits { FirstSuits (J.suits shared.now.key.target place) (owner_of seat.old.me.0).ring }
     ensures taken { seat.new.me ≡ (job_taken place seat.old.me.0, seat.old.me.1) }
 {
     start_job_as::<J, Brand>(shared, seat, place)

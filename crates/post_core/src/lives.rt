@@ -120,9 +120,11 @@ pub(crate) fn look_note<J: Meant>(
 ) -> u64
     requires table { IsOneTable seat.old.table_id shared.now.table_id shared.now.key.places }
     requires near { place < shared.now.key.places }
-    requires looks { IsPassView seat.old.me.0 × IsTrue (looks_at place (pass_of seat.old.me.0).look) }
+    requires looks { IsPassView seat.old.me.0
+        × IsTrue (looks_at place (pass_of seat.old.me.0).look) }
     ensures seat { (seat.new.table_id ≡ seat.old.table_id) × (seat.new.id ≡ seat.old.id) }
-    ensures found { (note : Note) × (result ≡ note_word note) × (seat.new.me ≡ (note_looked place note seat.old.me.0, seat.old.me.1)) }
+    ensures found { (note : Note) × (result ≡ note_word note)
+        × (seat.new.me ≡ (note_looked place note seat.old.me.0, seat.old.me.1)) }
 {
     shared.load::<LookNote>(seat, 263 + 5 * place as usize)
 }
@@ -136,8 +138,10 @@ pub(crate) fn mark_life<J: Meant>(
 )
     requires table { IsOneTable seat.old.table_id shared.now.table_id shared.now.key.places }
     requires near { place < shared.now.key.places }
-    requires looks { IsPassView seat.old.me.0 × IsTrue (looks_at place (pass_of seat.old.me.0).look) }
-    requires saw { IsTrue (has_seen_note (pass_of seat.old.me.0).look) × (life ≡ life_after_mark (pass_of seat.old.me.0).look) }
+    requires looks { IsPassView seat.old.me.0
+        × IsTrue (looks_at place (pass_of seat.old.me.0).look) }
+    requires saw { IsTrue (has_seen_note (pass_of seat.old.me.0).look)
+        × (life ≡ life_after_mark (pass_of seat.old.me.0).look) }
     ensures seat { (seat.new.table_id ≡ seat.old.table_id) × (seat.new.id ≡ seat.old.id) }
     ensures marked { seat.new.me ≡ (life_marked place seat.old.me.0, seat.old.me.1) }
 {
@@ -155,7 +159,9 @@ pub(crate) fn try_create<J: Meant>(
     requires idle { IsPassView seat.old.me.0 }
     requires other { place ≢ 0 }
     ensures seat { (seat.new.table_id ≡ seat.old.table_id) × (seat.new.id ≡ seat.old.id) }
-    ensures hit { result ≡ 0 → (seat.new.me ≡ (place_created place seat.old.me.0, seat.old.me.1)) × (slice_index (pass_of (place_created place seat.old.me.0)).uses place ≡ 1) }
+    ensures hit { result ≡ 0
+        → (seat.new.me ≡ (place_created place seat.old.me.0, seat.old.me.1))
+        × (slice_index (pass_of (place_created place seat.old.me.0)).uses place ≡ 1) }
     ensures miss { result ≢ 0 → seat.new.me ≡ (place_found place seat.old.me.0, seat.old.me.1) }
 {
     shared.compare_exchange::<Create>(seat, 264 + 5 * place as usize, 0, 3)

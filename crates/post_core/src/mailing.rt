@@ -64,7 +64,8 @@ pub(crate) fn look_mail<J: Meant>(
     requires away { (p : ℕ) → serving_at p seat.old.me.0 ≡ Away }
     ensures seat { (seat.new.table_id ≡ seat.old.table_id) × (seat.new.id ≡ seat.old.id) }
     ensures empty { result ≡ 0 → seat.new.me ≡ (word_empty word seat.old.me.0, seat.old.me.1) }
-    ensures found { result ≢ 0 → seat.new.me ≡ (notice_found (lowest_in word result) seat.old.me.0, seat.old.me.1) }
+    ensures found { result ≢ 0
+        → seat.new.me ≡ (notice_found (lowest_in word result) seat.old.me.0, seat.old.me.1) }
 {
     shared.load::<LookMail>(seat, 257 + word as usize)
 }

@@ -1,17 +1,18 @@
 //! A target's table, made.
 
-ghost use Rattle.std.specs.Prelude.{◌≡◌, ℕ, ◌+◌, ◌-◌, ◌<◌, ◌≤◌, All, IfOk, Some, [], ◌∷◌, ◌++◌, length, map, replicate, slice_index, slice_index_or, vec_capacity};
+ghost use Rattle.std.specs.Prelude.{◌≡◌, ◌+◌, ◌-◌, ◌<◌, ◌≤◌, All, IfOk, Some, [], length, map, replicate, vec_capacity};
 ghost use Rattle.proxy_laws.specs.Limits.{places_max, senders_max};
 ghost use Rattle.post_core.specs.Ending.{IsIdle};
 ghost use Rattle.post_core.specs.Making.{AreDealt, IsMade, dealing_view, open_rings, opening_words, system_uses};
+ghost use Rattle.post_core.specs.Records.{counts_of, starts_of};
 ghost use Rattle.post_core.specs.SendParts.{pass_view, post_places, post_senders, post_target};
-ghost use Rattle.post_core.specs.Words.{word_count};
 
 use crate::ending::end_uses;
 use crate::joining::Dealt;
 use crate::meant::Meant;
-use crate::owner::{Owner, OwnerHold, PlaceJobs};
+use crate::owner::{Owner, OwnerHold};
 use crate::post::{PassHold, PlaceUse, Post, SendPass};
+use crate::records::PlaceJobs;
 use crate::rule::{Law, Sizes};
 use crate::slots::Item;
 use crate::views::View;
@@ -108,11 +109,13 @@ fn deal<J: Meant>(
         × (shared.now.table_id.slots ≡ shared.now.key.places) }
     requires first { seat.old.me ≡ (dealing_view shared.now.key.places 0 senders, []) }
     requires owns { (length owns.items ≡ senders)
-        × All (λ own. map (λ kept. kept.items) own.items ≡ replicate shared.now.key.places []) owns.items }
+        × All (λ own. map (λ kept. kept.items) own.items
+        ≡ replicate shared.now.key.places []) owns.items }
     requires room { (passes.old.items ≡ []) × (senders ≤ vec_capacity passes.old) }
     ensures seat { (seat.new.table_id ≡ seat.old.table_id)
         × (seat.new.me ≡ (dealing_view shared.now.key.places senders 0, [])) }
-    ensures passes { AreDealt shared.now.key.places (map (λ pass. pass_view pass) passes.new.items) senders }
+    ensures passes { AreDealt shared.now.key.places
+        (map (λ pass. pass_view pass) passes.new.items) senders }
     ensures tables { All (λ pass. pass.hold.seat.table_id ≡ shared.now.table_id) passes.new.items }
 {
     for sender in 0..senders {
@@ -132,9 +135,8 @@ fn deal<J: Meant>(
 }
 
 fn new_jobs(alloc: Global, places: u32) -> Result<Vec<PlaceJobs>, AllocError>
-    ensures started { IfOk result
-        (λ jobs. map (λ place. place.started.items) jobs.items ≡ replicate places []) }
-    ensures taken { IfOk result (λ jobs. map (λ place. place.taken) jobs.items ≡ replicate places 0) }
+    ensures started { IfOk result (λ jobs. starts_of jobs.items ≡ replicate places []) }
+    ensures taken { IfOk result (λ jobs. counts_of jobs.items ≡ replicate places 0) }
 {
     let mut jobs = Vec::new(alloc);
     for _ in 0..places {

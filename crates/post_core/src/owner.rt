@@ -1,27 +1,19 @@
 //! What the owner of a target holds, in each of its states. A thread is in one of them.
 
-ghost use Rattle.std.specs.Prelude.{◌≡◌, ◌<◌, true, [], map, length};
+ghost use Rattle.std.specs.Prelude.{◌≡◌, ◌<◌, true, [], length};
 ghost use Rattle.proxy_laws.specs.declared.actors.Serving.TheVariants.{Got as GotUnder};
 ghost use Rattle.proxy_laws.specs.Phases.{serving_after_look};
 ghost use Rattle.post_core.specs.Parts.{IsEmptied, IsOwner, IsOwnerAt, is_open_start, serving_of};
+ghost use Rattle.post_core.specs.Records.{counts_of, starts_of};
 
 use crate::meant::Meant;
-use crate::records::StartedJob;
+use crate::records::PlaceJobs;
 use crate::slots::Item;
 use crate::views::View;
 use atomic_table::Seat;
 use crossbeam_utils::sync::Parker;
 use proxy_laws::{Mark, Started};
 use task_ring::Ring;
-
-/// The jobs of one place that the owner took.
-#[derive(Drop)]
-pub struct PlaceJobs {
-    /// Those that it took before it closed.
-    pub(crate) started: Vec<StartedJob>,
-    /// How many it took in all.
-    pub(crate) taken: u64,
-}
 
 /// What an owner holds in each of its states.
 pub(crate) struct OwnerHold<J: Meant> {
@@ -37,7 +29,8 @@ pub(crate) struct OwnerHold<J: Meant> {
 /// The owner of an open target, which works nowhere.
 pub struct Owner<J: Meant> {
     pub(crate) hold: OwnerHold<J>,
-    ghost is_owner: { IsOwner (map (λ place. place.started.items) hold.jobs.items) (map (λ place. place.taken) hold.jobs.items) hold.got hold.seat.me.0 },
+    ghost is_owner: { IsOwner
+        (starts_of hold.jobs.items) (counts_of hold.jobs.items) hold.got hold.seat.me.0 },
     ghost empty: { (hold.seat.me.1 ≡ []) × (length hold.jobs.items ≡ hold.seat.table_id.slots) },
 }
 
@@ -45,7 +38,8 @@ pub struct Owner<J: Meant> {
 pub struct Got<J: Meant> {
     pub(crate) hold: OwnerHold<J>,
     pub(crate) place: u32,
-    ghost is_got: { IsOwnerAt place (GotUnder hold.got) (map (λ place. place.started.items) hold.jobs.items) (map (λ place. place.taken) hold.jobs.items) hold.got hold.seat.me.0 },
+    ghost is_got: { IsOwnerAt place (GotUnder hold.got)
+        (starts_of hold.jobs.items) (counts_of hold.jobs.items) hold.got hold.seat.me.0 },
     ghost empty: { (hold.seat.me.1 ≡ []) × (length hold.jobs.items ≡ hold.seat.table_id.slots) },
     ghost near: { place < hold.seat.table_id.slots },
 }
@@ -56,7 +50,8 @@ pub struct Exec<J: Meant> {
     pub(crate) place: u32,
     // What starts the jobs that it takes.
     pub(crate) start: Started,
-    ghost is_exec: { IsOwnerAt place (serving_of start) (map (λ place. place.started.items) hold.jobs.items) (map (λ place. place.taken) hold.jobs.items) hold.got hold.seat.me.0 },
+    ghost is_exec: { IsOwnerAt place (serving_of start)
+        (starts_of hold.jobs.items) (counts_of hold.jobs.items) hold.got hold.seat.me.0 },
     ghost runs: { is_open_start start ≡ true },
     ghost empty: { (hold.seat.me.1 ≡ []) × (length hold.jobs.items ≡ hold.seat.table_id.slots) },
     ghost near: { place < hold.seat.table_id.slots },
@@ -67,7 +62,8 @@ pub struct SeenEmpty<J: Meant> {
     pub(crate) hold: OwnerHold<J>,
     pub(crate) place: u32,
     pub(crate) start: Started,
-    ghost is_seen: { IsOwnerAt place (serving_after_look (serving_of start)) (map (λ place. place.started.items) hold.jobs.items) (map (λ place. place.taken) hold.jobs.items) hold.got hold.seat.me.0 },
+    ghost is_seen: { IsOwnerAt place (serving_after_look (serving_of start))
+        (starts_of hold.jobs.items) (counts_of hold.jobs.items) hold.got hold.seat.me.0 },
     ghost runs: { is_open_start start ≡ true },
     ghost empty: { (hold.seat.me.1 ≡ []) × (length hold.jobs.items ≡ hold.seat.table_id.slots) },
     ghost near: { place < hold.seat.table_id.slots },
@@ -76,7 +72,8 @@ pub struct SeenEmpty<J: Meant> {
 /// The owner of a target that is closed and at which nothing waits.
 pub struct Emptied<J: Meant> {
     pub(crate) hold: OwnerHold<J>,
-    ghost is_emptied: { IsEmptied (map (λ place. place.started.items) hold.jobs.items) (map (λ place. place.taken) hold.jobs.items) hold.seat.me.0 },
+    ghost is_emptied: { IsEmptied
+        (starts_of hold.jobs.items) (counts_of hold.jobs.items) hold.seat.me.0 },
     ghost empty: { (hold.seat.me.1 ≡ []) × (length hold.jobs.items ≡ hold.seat.table_id.slots) },
 }
 

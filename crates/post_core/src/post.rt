@@ -1,6 +1,6 @@
 //! A target's table, and what senders and the owner hold of it.
 
-ghost use Rattle.std.specs.Prelude.{◌≡◌, ℕ, ◌+◌, ◌<◌, [], map, length};
+ghost use Rattle.std.specs.Prelude.{◌≡◌, ◌<◌, [], map, length};
 ghost use Rattle.post_core.specs.Parts.{IsPass};
 ghost use Rattle.post_core.specs.Views.{noted};
 ghost use Rattle.post_core.specs.Words.{word_count};
@@ -25,8 +25,10 @@ pub struct Post<J: Meant> {
     pub(crate) places: u32,
     // Wakes the owner where it parks.
     pub(crate) waker: Unparker,
-    ghost key: { table.shared.key ≡ record { target = target; senders = senders; places = places } },
-    ghost sized: { (table.shared.table_id.words ≡ word_count places) × (table.shared.table_id.slots ≡ places) },
+    ghost key: { table.shared.key
+        ≡ record { target = target; senders = senders; places = places } },
+    ghost sized: { (table.shared.table_id.words ≡ word_count places)
+        × (table.shared.table_id.slots ≡ places) },
 }
 
 /// What a pass holds in each of its states.
@@ -41,14 +43,16 @@ pub(crate) struct PassHold<J: Meant> {
 /// What one sender holds of a target. It has no reference.
 pub struct SendPass<J: Meant> {
     pub(crate) hold: PassHold<J>,
-    ghost is_pass: { IsPass hold.sender Idle (map (λ kept. kept.items) hold.own.items) hold.seat.me.0 },
+    ghost is_pass: { IsPass hold.sender Idle
+        (map (λ kept. kept.items) hold.own.items) hold.seat.me.0 },
     ghost empty: { (hold.seat.me.1 ≡ []) × (length hold.own.items ≡ hold.seat.table_id.slots) },
 }
 
 /// A pass with a reference of its target.
 pub struct RefPass<J: Meant> {
     pub(crate) hold: PassHold<J>,
-    ghost is_pass: { IsPass hold.sender Referenced (map (λ kept. kept.items) hold.own.items) hold.seat.me.0 },
+    ghost is_pass: { IsPass hold.sender Referenced
+        (map (λ kept. kept.items) hold.own.items) hold.seat.me.0 },
     ghost empty: { (hold.seat.me.1 ≡ []) × (length hold.own.items ≡ hold.seat.table_id.slots) },
 }
 
@@ -57,7 +61,8 @@ pub struct Owing<J: Meant> {
     pub(crate) hold: PassHold<J>,
     pub(crate) place: u32,
     pub(crate) nth: u64,
-    ghost is_pass: { IsPass hold.sender (OwingAt place) (map (λ kept. kept.items) hold.own.items) hold.seat.me.0 },
+    ghost is_pass: { IsPass hold.sender (OwingAt place)
+        (map (λ kept. kept.items) hold.own.items) hold.seat.me.0 },
     ghost empty: { (hold.seat.me.1 ≡ []) × (length hold.own.items ≡ hold.seat.table_id.slots) },
     ghost near: { place < hold.seat.table_id.slots },
 }
@@ -66,7 +71,8 @@ pub struct Owing<J: Meant> {
 pub struct Notice<J: Meant> {
     pub(crate) hold: PassHold<J>,
     pub(crate) place: u32,
-    ghost is_pass: { IsPass hold.sender (Messenger place) (map (λ kept. kept.items) hold.own.items) hold.seat.me.0 },
+    ghost is_pass: { IsPass hold.sender (Messenger place)
+        (map (λ kept. kept.items) hold.own.items) hold.seat.me.0 },
     ghost empty: { (hold.seat.me.1 ≡ []) × (length hold.own.items ≡ hold.seat.table_id.slots) },
     ghost near: { place < hold.seat.table_id.slots },
 }

@@ -1,14 +1,11 @@
 //! How a job comes to its place: its sender waits for the turn, pushes the job into the ring and counts it.
 
-ghost use Rattle.std.specs.Prelude.{◌≡◌, ◌∷◌, [], ◌++◌, ◌<◌, IfOk, IfErr, OnOk, map, length, slice_index};
-ghost use Rattle.atomic_table.specs.Table.{rest};
+ghost use Rattle.std.specs.Prelude.{◌≡◌, ◌∷◌, [], ◌++◌, ◌<◌, IfOk, IfErr, OnOk, slice_index};
 ghost use Rattle.task_ring.specs.Ring.{RingView};
 ghost use Rattle.proxy_laws.specs.declared.actors.Phase.TheVariants.{Referenced};
 ghost use Rattle.post_core.specs.declared.slots.Item.{Item};
-ghost use Rattle.post_core.specs.Kept.{listed};
-ghost use Rattle.post_core.specs.Records.{own_mark};
-ghost use Rattle.post_core.specs.SendSteps.{IsNextAt, job_sent, own_marks_max, place_taken};
-ghost use Rattle.post_core.specs.Steps.{IsOneTable, all_meant};
+ghost use Rattle.post_core.specs.SendSteps.{IsNextAt, IsNextMark, SenderHasTurn, job_sent, own_marks_max};
+ghost use Rattle.post_core.specs.Steps.{IsOneTable};
 ghost use Rattle.post_core.specs.Views.{IsPassView, pass_of};
 
 use crate::meant::Meant;
@@ -50,7 +47,7 @@ fn wait_for_turn<R: Wait, J: Meant>(
     requires referenced { IsPassView seat.old.me.0 × ((pass_of seat.old.me.0).phase ≡ Referenced) }
     requires used { 0 < slice_index (pass_of seat.old.me.0).uses place }
     ensures seat { seat.new.table_id ≡ seat.old.table_id }
-    ensures taken { (ring : RingView (Item J)) × (seat.new.me ≡ (place_taken place (all_meant J.meaning ring.items) seat.old.me.0, (place, ring) ∷ seat.old.me.1)) }
+    ensures taken { SenderHasTurn J.meaning place seat.old.me seat.new.me }
 {
     for _ in rt.forever() {
         if try_turn(shared, seat, place) == 0 {
@@ -63,7 +60,8 @@ fn wait_for_turn<R: Wait, J: Meant>(
 
 // Pushes a job into a ring, or hands it back where memory is wanting.
 fn push_item<J>(ring: &mut Ring<Item<J>>, mark: Mark, job: J) -> Result<(), J>
-    ensures ok { OnOk result (ring.new.items ≡ ring.old.items ++ record { mark = mark; job = job } ∷ []) }
+    ensures ok { OnOk result (ring.new.items
+        ≡ ring.old.items ++ record { mark = mark; job = job } ∷ []) }
     ensures err { IfErr result (λ back. (back ≡ job) × (ring.new ≡ ring.old)) }
 {
     if ring.reserve().is_err() {
@@ -84,7 +82,10 @@ fn push_held<J: Meant>(
     requires table { seat.old.table_id ≡ shared.now.table_id }
     requires held { (ring : RingView (Item J)) × (seat.old.me.1 ≡ (place, ring) ∷ []) }
     ensures seat { seat.new.table_id ≡ seat.old.table_id }
-    ensures ok { OnOk result ((ring grown : RingView (Item J)) × (seat.old.me.1 ≡ (place, ring) ∷ []) × (grown.items ≡ ring.items ++ record { mark = mark; job = job } ∷ []) × (seat.new.me ≡ (seat.old.me.0, (place, grown) ∷ []))) }
+    ensures ok { OnOk result ((ring grown : RingView (Item J))
+        × (seat.old.me.1 ≡ (place, ring) ∷ [])
+        × (grown.items ≡ ring.items ++ record { mark = mark; job = job } ∷ [])
+        × (seat.new.me ≡ (seat.old.me.0, (place, grown) ∷ []))) }
     ensures err { IfErr result (λ back. (back ≡ job) × (seat.new.me ≡ seat.old.me)) }
 {
     let ring = seat.slot_mut(shared, place as usize);
@@ -102,12 +103,15 @@ fn put_in_turn<R: Wait, J: Meant>(
 ) -> Result<u64, J>
     requires table { IsOneTable seat.old.table_id shared.now.table_id shared.now.key.places }
     requires near { place < shared.now.key.places }
-    requires referenced { IsPassView seat.old.me.0 × ((pass_of seat.old.me.0).phase ≡ Referenced) × ((pass_of seat.old.me.0).ring ≡ []) × (seat.old.me.1 ≡ []) }
+    requires referenced { IsPassView seat.old.me.0 × ((pass_of seat.old.me.0).phase ≡ Referenced)
+        × ((pass_of seat.old.me.0).ring ≡ []) × (seat.old.me.1 ≡ []) }
     requires used { 0 < slice_index (pass_of seat.old.me.0).uses place }
-    requires mark { (mark.sender ≡ (pass_of seat.old.me.0).number) × (mark.seq ≡ length (listed (pass_of seat.old.me.0).own place)) × (mark.seq < own_marks_max) }
+    requires mark { IsNextMark place mark seat.old.me.0 }
+    requires room { mark.seq < own_marks_max }
     requires suits { J.suits shared.now.key.target place mark (J.meaning job) }
     ensures seat { seat.new.table_id ≡ seat.old.table_id }
-    ensures put { IfOk result (λ nth. IsNextAt place nth seat.old.me.0 × (seat.new.me ≡ (job_sent place nth (record { mark = mark; meaning = J.meaning job }) seat.old.me.0, []))) }
+    ensures put { IfOk result (λ nth. IsNextAt place nth seat.old.me.0 × (seat.new.me ≡
+        (job_sent place nth (record { mark = mark; meaning = J.meaning job }) seat.old.me.0, []))) }
     ensures no_memory { IfErr result (λ back. (back ≡ job) × (seat.new.me ≡ seat.old.me)) }
 {
     wait_for_turn(rt, shared, seat, place);
@@ -132,13 +136,17 @@ pub(crate) fn put_marked<R: Wait, J: Meant>(
 ) -> Result<u64, J>
     requires table { IsOneTable seat.old.table_id shared.now.table_id shared.now.key.places }
     requires near { place < shared.now.key.places }
-    requires referenced { IsPassView seat.old.me.0 × ((pass_of seat.old.me.0).phase ≡ Referenced) × ((pass_of seat.old.me.0).ring ≡ []) × (seat.old.me.1 ≡ []) }
+    requires referenced { IsPassView seat.old.me.0 × ((pass_of seat.old.me.0).phase ≡ Referenced)
+        × ((pass_of seat.old.me.0).ring ≡ []) × (seat.old.me.1 ≡ []) }
     requires used { 0 < slice_index (pass_of seat.old.me.0).uses place }
-    requires mark { (mark.sender ≡ (pass_of seat.old.me.0).number) × (mark.seq ≡ length (listed (pass_of seat.old.me.0).own place)) }
+    requires mark { IsNextMark place mark seat.old.me.0 }
     requires suits { J.suits shared.now.key.target place mark (J.meaning job) }
     ensures seat { seat.new.table_id ≡ seat.old.table_id }
-    ensures put { IfOk result (λ nth. IsNextAt place nth seat.old.me.0 × (seat.new.me ≡ (job_sent place nth (record { mark = mark; meaning = J.meaning job }) seat.old.me.0, [])) × (kept.new.items ≡ kept.old.items ++ record { nth = nth; mark = mark } ∷ [])) }
-    ensures no_memory { IfErr result (λ back. (back ≡ job) × (seat.new.me ≡ seat.old.me) × (kept.new.items ≡ kept.old.items)) }
+    ensures put { IfOk result (λ nth. IsNextAt place nth seat.old.me.0 × (seat.new.me
+        ≡ (job_sent place nth (record { mark = mark; meaning = J.meaning job }) seat.old.me.0, []))
+        × (kept.new.items ≡ kept.old.items ++ record { nth = nth; mark = mark } ∷ [])) }
+    ensures no_memory { IfErr result (λ back. (back ≡ job) × (seat.new.me ≡ seat.old.me)
+        × (kept.new.items ≡ kept.old.items)) }
 {
     wait_for_number(rt, mark.seq);
     if kept.reserve(1).is_err() {

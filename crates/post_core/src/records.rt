@@ -1,6 +1,6 @@
 //! The record of a closed target, made from what the passes and the owner keep.
 
-ghost use Rattle.std.specs.Prelude.{◌≡◌, ◌<◌, IfOk};
+ghost use Rattle.std.specs.Prelude.{◌≡◌, ◌<◌};
 ghost use Rattle.post_core.specs.Records.{filled};
 
 use proxy_laws::{FateMark, JobRecord, Mark, OwnMark, Started};
@@ -11,6 +11,15 @@ pub struct StartedJob {
     pub mark: Mark,
     pub started: Started,
     pub fate: Option<FateMark>,
+}
+
+/// The jobs of one place that the owner took.
+#[derive(Drop)]
+pub struct PlaceJobs {
+    /// Those that it took before it closed.
+    pub(crate) started: Vec<StartedJob>,
+    /// How many it took in all.
+    pub(crate) taken: u64,
 }
 
 // Writes each mark at its number.

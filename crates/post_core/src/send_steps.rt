@@ -1,15 +1,14 @@
 //! The steps of a sender on its target's table, each of which is one event of its world.
 
-ghost use Rattle.std.specs.Prelude.{◌≡◌, ◌≢◌, ◌∷◌, ℕ, ◌<◌, ◌≤◌, Some, false, IsTrue, length, slice_index};
+ghost use Rattle.std.specs.Prelude.{◌≡◌, ◌≢◌, ◌<◌, ◌≤◌, Some, false, IsTrue, length, slice_index};
 ghost use Rattle.atomic_table.specs.Table.{rest};
-ghost use Rattle.task_ring.specs.Ring.{RingView};
 ghost use Rattle.proxy_laws.specs.declared.actors.Note.{Note};
 ghost use Rattle.proxy_laws.specs.declared.actors.Phase.TheVariants.{Holding, Idle, Owing, Referenced};
 ghost use Rattle.proxy_laws.specs.Phases.{has_turn_at, note_word, phase_after_swap};
 ghost use Rattle.post_core.specs.declared.slots.Item.{Item};
 ghost use Rattle.post_core.specs.Kept.{listed};
-ghost use Rattle.post_core.specs.SendSteps.{IsNextAt, added_ref, counted_put, dropped_ref, has_seen_closed, last_held, loaded_refs, meant_item, none_seen, own_marks_max, place_given, place_taken, references_max, sender_gave_place, sender_took_place, swapped_note};
-ghost use Rattle.post_core.specs.Steps.{IsOneTable, all_meant};
+ghost use Rattle.post_core.specs.SendSteps.{IsNextAt, IsNextMark, SenderHasTurn, added_ref, counted_put, dropped_ref, has_seen_closed, last_held, loaded_refs, meant_item, none_seen, own_marks_max, place_given, references_max, sender_gave_place, sender_took_place, swapped_note};
+ghost use Rattle.post_core.specs.Steps.{HoldsRing, IsOneTable};
 ghost use Rattle.post_core.specs.Views.{IsPassView, at_phase, job_put, pass_of};
 ghost use Rattle.post_core.specs.Words.{note_at, place_from, put_at, turn_place};
 
@@ -94,9 +93,11 @@ pub(crate) fn add_ref<J: Meant>(
     requires idle { IsPassView seat.old.me.0 × ((pass_of seat.old.me.0).phase ≡ Idle) }
     requires seen { (1 ≤ seen) × (seen ≤ references_max) }
     ensures seat { (seat.new.table_id ≡ seat.old.table_id) × (seat.new.id ≡ seat.old.id) }
-    ensures added { result ≡ seen → (has_seen_closed seat.old.me.0 ≡ false) × (seat.new.me ≡ (at_phase Referenced seat.old.me.0, seat.old.me.1)) }
+    ensures added { result ≡ seen → (has_seen_closed seat.old.me.0 ≡ false)
+        × (seat.new.me ≡ (at_phase Referenced seat.old.me.0, seat.old.me.1)) }
     ensures few { result ≢ seen → result ≤ references_max }
-    ensures none { result ≢ seen → result ≡ 0 → seat.new.me ≡ (none_seen seat.old.me.0, seat.old.me.1) }
+    ensures none { result ≢ seen → result ≡ 0
+        → seat.new.me ≡ (none_seen seat.old.me.0, seat.old.me.1) }
     ensures there { result ≢ seen → result ≢ 0 → seat.new.me ≡ seat.old.me }
 {
     shared.compare_exchange::<AddRef>(seat, 0, seen, seen + 1)
@@ -126,7 +127,7 @@ pub(crate) fn try_turn<J: Meant>(
     requires referenced { IsPassView seat.old.me.0 × ((pass_of seat.old.me.0).phase ≡ Referenced) }
     requires used { 0 < slice_index (pass_of seat.old.me.0).uses place }
     ensures seat { (seat.new.table_id ≡ seat.old.table_id) × (seat.new.id ≡ seat.old.id) }
-    ensures hit { result ≡ 0 → (ring : RingView (Item J)) × (seat.new.me ≡ (place_taken place (all_meant J.meaning ring.items) seat.old.me.0, (place, ring) ∷ seat.old.me.1)) }
+    ensures hit { result ≡ 0 → SenderHasTurn J.meaning place seat.old.me seat.new.me }
     ensures miss { result ≢ 0 → seat.new.me ≡ seat.old.me }
 {
     shared.compare_exchange::<SenderTakePlace>(seat, 1 + place as usize, 0, 1)
@@ -142,10 +143,13 @@ pub(crate) fn count_put<J: Meant>(
     requires near { place < shared.now.key.places }
     requires holding { IsPassView seat.old.me.0 × ((pass_of seat.old.me.0).phase ≡ Holding place) }
     requires room { length (listed (pass_of seat.old.me.0).own place) < own_marks_max }
-    requires job { (item : Item J) × (last_held seat.old.me.1 ≡ Some item) × (item.mark.sender ≡ (pass_of seat.old.me.0).number) × (item.mark.seq ≡ length (listed (pass_of seat.old.me.0).own place)) × J.suits shared.now.key.target place item.mark (J.meaning item.job) }
+    requires job { (item : Item J) × (last_held seat.old.me.1 ≡ Some item)
+        × IsNextMark place item.mark seat.old.me.0
+        × J.suits shared.now.key.target place item.mark (J.meaning item.job) }
     ensures seat { (seat.new.table_id ≡ seat.old.table_id) × (seat.new.id ≡ seat.old.id) }
     ensures nth { IsNextAt place result seat.old.me.0 }
-    ensures counted { (item : Item J) → last_held seat.old.me.1 ≡ Some item → seat.new.me ≡ (job_put place result (meant_item J.meaning item) seat.old.me.0, seat.old.me.1) }
+    ensures counted { (item : Item J) → last_held seat.old.me.1 ≡ Some item → seat.new.me
+        ≡ (job_put place result (meant_item J.meaning item) seat.old.me.0, seat.old.me.1) }
 {
     shared.fetch_add::<CountPut>(seat, 261 + 5 * place as usize, 1)
 }
@@ -158,8 +162,9 @@ pub(crate) fn give_turn<J: Meant>(
 )
     requires table { IsOneTable seat.old.table_id shared.now.table_id shared.now.key.places }
     requires near { place < shared.now.key.places }
-    requires turn { IsPassView seat.old.me.0 × IsTrue (has_turn_at place (pass_of seat.old.me.0).phase) }
-    requires holds { (ring : RingView (Item J)) × (seat.old.me.1 ≡ (place, ring) ∷ rest seat.old.me.1) × (all_meant J.meaning ring.items ≡ (pass_of seat.old.me.0).ring) }
+    requires turn { IsPassView seat.old.me.0
+        × IsTrue (has_turn_at place (pass_of seat.old.me.0).phase) }
+    requires holds { HoldsRing J.meaning place (pass_of seat.old.me.0).ring seat.old.me.1 }
     ensures seat { (seat.new.table_id ≡ seat.old.table_id) × (seat.new.id ≡ seat.old.id) }
     ensures given { seat.new.me ≡ (place_given place seat.old.me.0, rest seat.old.me.1) }
 {
@@ -176,7 +181,8 @@ pub(crate) fn swap_note<J: Meant>(
     requires near { place < shared.now.key.places }
     requires owes { IsPassView seat.old.me.0 × ((pass_of seat.old.me.0).phase ≡ Owing place) }
     ensures seat { (seat.new.table_id ≡ seat.old.table_id) × (seat.new.id ≡ seat.old.id) }
-    ensures found { (note : Note) × (result ≡ note_word note) × (seat.new.me ≡ (at_phase (phase_after_swap place note) seat.old.me.0, seat.old.me.1)) }
+    ensures found { (note : Note) × (result ≡ note_word note)
+        × (seat.new.me ≡ (at_phase (phase_after_swap place note) seat.old.me.0, seat.old.me.1)) }
 {
     shared.swap::<SwapNote>(seat, 263 + 5 * place as usize, 1)
 }

@@ -2,9 +2,9 @@
 
 ghost use Rattle.std.specs.Prelude.{◌≡◌, ℕ, ◌<◌, IsTrue, None, Some, [], length};
 ghost use Rattle.proxy_laws.specs.declared.actors.Serving.TheVariants.{Away, Direct, SeenEmpty};
-ghost use Rattle.proxy_laws.specs.Phases.{is_got, is_working};
+ghost use Rattle.proxy_laws.specs.Phases.{is_got};
 ghost use Rattle.post_core.specs.Kept.{listed};
-ghost use Rattle.post_core.specs.ServingSteps.{at_serving, began_directly, finished_place, looked_place, place_looked, place_received, received_place, serving_at};
+ghost use Rattle.post_core.specs.ServingSteps.{WorksAt, at_serving, began_directly, finished_place, looked_place, place_looked, place_received, received_place, serving_at};
 ghost use Rattle.post_core.specs.Steps.{IsOneTable};
 ghost use Rattle.post_core.specs.Views.{IsOwnerView, owner_of};
 
@@ -83,7 +83,7 @@ pub(crate) fn look_place<J: Meant>(
     requires table { IsOneTable seat.old.table_id shared.now.table_id shared.now.key.places }
     requires near { place < shared.now.key.places }
     requires owner { IsOwnerView seat.old.me.0 × ((owner_of seat.old.me.0).turn ≡ Some place) }
-    requires works { IsTrue (is_working (owner_of seat.old.me.0).state (serving_at place seat.old.me.0)) }
+    requires works { WorksAt place seat.old.me.0 }
     requires empty { (owner_of seat.old.me.0).ring ≡ [] }
     ensures seat { (seat.new.table_id ≡ seat.old.table_id) × (seat.new.id ≡ seat.old.id) }
     ensures count { result ≡ length (listed (owner_of seat.old.me.0).jobs place) }

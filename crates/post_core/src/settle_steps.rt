@@ -1,6 +1,6 @@
 //! The step by which the owner settles a job.
 
-ghost use Rattle.std.specs.Prelude.{◌≡◌, ℕ, ◌<◌, IsTrue, None, Some, [], length, slice_get, slice_index_or, drop};
+ghost use Rattle.std.specs.Prelude.{◌≡◌, ℕ, ◌<◌, []};
 ghost use Rattle.proxy_laws.specs.declared.records.FateMark.{FateMark};
 ghost use Rattle.proxy_laws.specs.declared.records.FateMark.TheVariants.{Finished};
 ghost use Rattle.proxy_laws.specs.Settling.{settler};
@@ -52,7 +52,8 @@ fn settle_as<J: Meant, P: Settling>(
     requires near { (nth ≡ P.number) × (fate ≡ P.fate) × (place < shared.now.key.places) }
     requires owner { IsOwnerView seat.old.me.0 × ((owner_of seat.old.me.0).state ≡ settler fate) }
     requires active { IsActiveHere (listed (owner_of seat.old.me.0).jobs place) nth }
-    ensures seat { (seat.new.table_id ≡ seat.old.table_id) × (seat.new.id ≡ seat.old.id) × (result.table_id ≡ seat.old.table_id) }
+    ensures seat { (seat.new.table_id ≡ seat.old.table_id) × (seat.new.id ≡ seat.old.id)
+        × (result.table_id ≡ seat.old.table_id) }
     ensures settled { seat.new.me ≡ (job_settled place nth fate seat.old.me.0, seat.old.me.1) }
     ensures note { result.me ≡ (noted (job_settled place nth fate seat.old.me.0), []) }
 {
@@ -72,7 +73,8 @@ pub(crate) fn settle<J: Meant>(
     requires near { place < shared.now.key.places }
     requires owner { IsOwnerView seat.old.me.0 × ((owner_of seat.old.me.0).state ≡ settler fate) }
     requires active { IsActiveHere (listed (owner_of seat.old.me.0).jobs place) nth }
-    ensures seat { (seat.new.table_id ≡ seat.old.table_id) × (seat.new.id ≡ seat.old.id) × (result.table_id ≡ seat.old.table_id) }
+    ensures seat { (seat.new.table_id ≡ seat.old.table_id) × (seat.new.id ≡ seat.old.id)
+        × (result.table_id ≡ seat.old.table_id) }
     ensures settled { seat.new.me ≡ (job_settled place nth fate seat.old.me.0, seat.old.me.1) }
     ensures note { result.me ≡ (noted (job_settled place nth fate seat.old.me.0), []) }
 {

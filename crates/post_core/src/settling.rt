@@ -1,27 +1,30 @@
 //! The owner settles jobs that it took.
 
-ghost use Rattle.std.specs.Prelude.{◌≡◌, ◌<◌, Some, map, length, slice_set};
+ghost use Rattle.std.specs.Prelude.{◌≡◌, ◌<◌, Some, length, slice_set};
 ghost use Rattle.proxy_laws.specs.declared.records.FateMark.TheVariants.{Finished};
 ghost use Rattle.post_core.specs.Kept.{listed};
 ghost use Rattle.post_core.specs.NoteParts.{IsNoteOf, note_view};
 ghost use Rattle.post_core.specs.OwnerViews.{IsExecOf, IsOwnerOf, exec_place, exec_view, owner_view};
+ghost use Rattle.post_core.specs.Records.{counts_of, starts_of};
 ghost use Rattle.post_core.specs.SendParts.{HasPlace};
 ghost use Rattle.post_core.specs.Settles.{kept_settled};
 ghost use Rattle.post_core.specs.Steps.{IsActiveHere};
 ghost use Rattle.post_core.specs.Views.{job_settled, noted, owner_of};
 
 use crate::meant::Meant;
-use crate::owner::{Exec, Owner, PlaceJobs};
+use crate::owner::{Exec, Owner};
 use crate::post::{Post, SeenNote};
+use crate::records::PlaceJobs;
 use crate::settle_steps::settle;
 use proxy_laws::FateMark;
 
 /// Keeps the fate of a job that was started at the place.
 fn keep_fate(jobs: &mut Vec<PlaceJobs>, place: u32, nth: u64, fate: FateMark)
     requires near { place < length jobs.old.items }
-    requires there { nth < length (listed (map (λ place. place.started.items) jobs.old.items) place) }
-    ensures started { map (λ place. place.started.items) jobs.new.items ≡ slice_set (map (λ place. place.started.items) jobs.old.items) place (kept_settled nth fate (listed (map (λ place. place.started.items) jobs.old.items) place)) }
-    ensures taken { map (λ place. place.taken) jobs.new.items ≡ map (λ place. place.taken) jobs.old.items }
+    requires there { nth < length (listed (starts_of jobs.old.items) place) }
+    ensures started { starts_of jobs.new.items ≡ slice_set (starts_of jobs.old.items) place
+        (kept_settled nth fate (listed (starts_of jobs.old.items) place)) }
+    ensures taken { counts_of jobs.new.items ≡ counts_of jobs.old.items }
 {
     jobs[place as usize].started[nth as usize].fate = Some(fate);
 }

@@ -1,16 +1,17 @@
 //! The owner takes jobs of the place that it executes, and finishes with it.
 
-ghost use Rattle.std.specs.Prelude.{◌≡◌, ◌+◌, ◌-◌, ◌∷◌, ◌++◌, ◌<◌, ◌≤◌, Some, [], map, length, slice_get, slice_index, slice_set, vec_capacity, OnOk};
+ghost use Rattle.std.specs.Prelude.{◌≡◌, ◌+◌, ◌-◌, ◌∷◌, ◌++◌, ◌<◌, ◌≤◌, Some, [], length, slice_get, slice_index, slice_set, OnOk};
 ghost use Rattle.proxy_laws.specs.declared.actors.Serving.TheVariants.{Away};
 ghost use Rattle.post_core.specs.Kept.{listed};
 ghost use Rattle.post_core.specs.OwnerViews.{IsExecOf, IsOwnerOf, IsSameExec, IsSeenEmptyOf, IsTaken, exec_place, exec_room, exec_view, owner_view, room_here, seen_place, seen_view};
+ghost use Rattle.post_core.specs.Records.{counts_of, starts_of};
 ghost use Rattle.post_core.specs.ServingSteps.{at_serving};
 
 use crate::first_job::first_job;
 use crate::meant::Meant;
-use crate::owner::{Exec, Owner, PlaceJobs, SeenEmpty, Taken};
+use crate::owner::{Exec, Owner, SeenEmpty, Taken};
 use crate::post::Post;
-use crate::records::StartedJob;
+use crate::records::{PlaceJobs, StartedJob};
 use crate::serving::finish_place;
 use crate::slots::Item;
 use proxy_laws::Started;
@@ -21,8 +22,8 @@ use std::sync::Wait;
 fn make_room(jobs: &mut Vec<PlaceJobs>, place: u32) -> Result<(), AllocError>
     requires { place < length jobs.old.items }
     ensures room { OnOk result (1 ≤ room_here (slice_get jobs.new.items place)) }
-    ensures started { map (λ place. place.started.items) jobs.new.items ≡ map (λ place. place.started.items) jobs.old.items }
-    ensures taken { map (λ place. place.taken) jobs.new.items ≡ map (λ place. place.taken) jobs.old.items }
+    ensures started { starts_of jobs.new.items ≡ starts_of jobs.old.items }
+    ensures taken { counts_of jobs.new.items ≡ counts_of jobs.old.items }
 {
     jobs[place as usize].started.reserve(1)?;
     Ok(())
@@ -32,9 +33,12 @@ fn make_room(jobs: &mut Vec<PlaceJobs>, place: u32) -> Result<(), AllocError>
 fn keep_started(jobs: &mut Vec<PlaceJobs>, place: u32, job: StartedJob)
     requires near { place < length jobs.old.items }
     requires room { 1 ≤ room_here (slice_get jobs.old.items place) }
-    requires all { slice_index (map (λ place. place.taken) jobs.old.items) place ≡ length (listed (map (λ place. place.started.items) jobs.old.items) place) }
-    ensures started { map (λ place. place.started.items) jobs.new.items ≡ slice_set (map (λ place. place.started.items) jobs.old.items) place (listed (map (λ place. place.started.items) jobs.old.items) place ++ job ∷ []) }
-    ensures taken { map (λ place. place.taken) jobs.new.items ≡ slice_set (map (λ place. place.taken) jobs.old.items) place (slice_index (map (λ place. place.taken) jobs.old.items) place + 1) }
+    requires all { slice_index (counts_of jobs.old.items) place
+        ≡ length (listed (starts_of jobs.old.items) place) }
+    ensures started { starts_of jobs.new.items ≡ slice_set (starts_of jobs.old.items) place
+        (listed (starts_of jobs.old.items) place ++ job ∷ []) }
+    ensures taken { counts_of jobs.new.items ≡ slice_set (counts_of jobs.old.items) place
+        (slice_index (counts_of jobs.old.items) place + 1) }
 {
     let kept = &mut jobs[place as usize];
     kept.started.push_reserved(job);

@@ -1,13 +1,11 @@
 //! The owner's steps on the turn of a place.
 
-ghost use Rattle.std.specs.Prelude.{◌≡◌, ◌≢◌, ◌∷◌, ◌<◌, IsTrue, None, Some, slice_index_or};
+ghost use Rattle.std.specs.Prelude.{◌≡◌, ◌≢◌, ◌<◌, None, Some};
 ghost use Rattle.atomic_table.specs.Table.{rest};
-ghost use Rattle.task_ring.specs.Ring.{RingView};
-ghost use Rattle.proxy_laws.specs.declared.actors.Serving.TheVariants.{Away};
-ghost use Rattle.proxy_laws.specs.Phases.{is_working};
 ghost use Rattle.post_core.specs.declared.slots.Item.{Item};
-ghost use Rattle.post_core.specs.Steps.{IsOneTable, all_meant, gave_place, took_place};
-ghost use Rattle.post_core.specs.Views.{IsOwnerView, owner_of, turn_given, turn_taken};
+ghost use Rattle.post_core.specs.ServingSteps.{WorksAt};
+ghost use Rattle.post_core.specs.Steps.{HasTakenTurn, HoldsRing, IsOneTable, gave_place, took_place};
+ghost use Rattle.post_core.specs.Views.{IsOwnerView, owner_of, turn_given};
 ghost use Rattle.post_core.specs.Words.{turn_place};
 
 use crate::meant::Meant;
@@ -40,9 +38,9 @@ pub(crate) fn try_place<J: Meant>(
     requires table { IsOneTable seat.old.table_id shared.now.table_id shared.now.key.places }
     requires near { place < shared.now.key.places }
     requires owner { IsOwnerView seat.old.me.0 × ((owner_of seat.old.me.0).turn ≡ None) }
-    requires works { IsTrue (is_working (owner_of seat.old.me.0).state (slice_index_or (owner_of seat.old.me.0).serving place Away)) }
+    requires works { WorksAt place seat.old.me.0 }
     ensures seat { (seat.new.table_id ≡ seat.old.table_id) × (seat.new.id ≡ seat.old.id) }
-    ensures hit { result ≡ 0 → (ring : RingView (Item J)) × (seat.new.me ≡ (turn_taken place (all_meant J.meaning ring.items) seat.old.me.0, (place, ring) ∷ seat.old.me.1)) }
+    ensures hit { result ≡ 0 → HasTakenTurn J.meaning place seat.old.me seat.new.me }
     ensures miss { result ≢ 0 → seat.new.me ≡ seat.old.me }
 {
     shared.compare_exchange::<TakePlace>(seat, 1 + place as usize, 0, 1)
@@ -57,7 +55,7 @@ pub(crate) fn give_place<J: Meant>(
     requires table { IsOneTable seat.old.table_id shared.now.table_id shared.now.key.places }
     requires near { place < shared.now.key.places }
     requires owner { IsOwnerView seat.old.me.0 × ((owner_of seat.old.me.0).turn ≡ Some place) }
-    requires holds { (ring : RingView (Item J)) × (seat.old.me.1 ≡ (place, ring) ∷ rest seat.old.me.1) × (all_meant J.meaning ring.items ≡ (owner_of seat.old.me.0).ring) }
+    requires holds { HoldsRing J.meaning place (owner_of seat.old.me.0).ring seat.old.me.1 }
     ensures seat { (seat.new.table_id ≡ seat.old.table_id) × (seat.new.id ≡ seat.old.id) }
     ensures given { seat.new.me ≡ (turn_given seat.old.me.0, rest seat.old.me.1) }
 {

@@ -89,7 +89,8 @@ fn release_use<J: Meant>(
     requires used { 0 < slice_index (pass_of seat.old.me.0).uses place }
     requires nowhere { (pass_of seat.old.me.0).look ≡ Nowhere }
     requires other { place ≢ 0 }
-    ensures seat { (seat.new.table_id ≡ seat.old.table_id) × (seat.new.id ≡ seat.old.id) × (seat.new.me.1 ≡ seat.old.me.1) }
+    ensures seat { (seat.new.table_id ≡ seat.old.table_id) × (seat.new.id ≡ seat.old.id)
+        × (seat.new.me.1 ≡ seat.old.me.1) }
     ensures released { IsReleased place seat.old.me.0 result seat.new.me.0 }
 {
     if drop_use(shared, seat, place) != ONE_USE {
@@ -128,7 +129,8 @@ fn cull_all<J: Meant>(
     requires table { IsOneTable seat.old.table_id shared.now.table_id shared.now.key.places }
     requires places { places ≡ shared.now.key.places }
     requires nowhere { IsPassView seat.old.me.0 × ((pass_of seat.old.me.0).look ≡ Nowhere) }
-    ensures seat { (seat.new.table_id ≡ seat.old.table_id) × (seat.new.id ≡ seat.old.id) × (seat.new.me.1 ≡ seat.old.me.1) }
+    ensures seat { (seat.new.table_id ≡ seat.old.table_id) × (seat.new.id ≡ seat.old.id)
+        × (seat.new.me.1 ≡ seat.old.me.1) }
     ensures culled { IsCulled (places - 1) seat.old.me.0 seat.new.me.0 }
 {
     for place in 1..places {
@@ -146,8 +148,12 @@ fn create_first<J: Meant>(
     requires places { places ≡ shared.now.key.places }
     requires idle { IsPassView seat.old.me.0 }
     ensures seat { (seat.new.table_id ≡ seat.old.table_id) × (seat.new.id ≡ seat.old.id) }
-    ensures created { IfSome result (λ place. (place ≢ 0) × (place < places) × (slice_index (pass_of seat.new.me.0).uses place ≡ 1) × (seat.new.me ≡ (place_created place (all_found (place - 1) seat.old.me.0), seat.old.me.1))) }
-    ensures full { result ≡ None → seat.new.me ≡ (all_found (places - 1) seat.old.me.0, seat.old.me.1) }
+    ensures created { IfSome result (λ place. (place ≢ 0) × (place < places)
+        × (slice_index (pass_of seat.new.me.0).uses place ≡ 1)
+        × (seat.new.me
+        ≡ (place_created place (all_found (place - 1) seat.old.me.0), seat.old.me.1))) }
+    ensures full { result ≡ None
+        → seat.new.me ≡ (all_found (places - 1) seat.old.me.0, seat.old.me.1) }
 {
     for place in 1..places {
         if try_create(shared, seat, place) == FREE {
@@ -166,7 +172,8 @@ impl<J: Meant> Post<J> {
         // one free.
         ensures made { IfMade result (λ back place_use. IsPassOf self.now back
             × (pass_sender back ≡ pass_sender pass) × IsNewUse self.now (pass_view back) place_use
-            × IsCreated (post_places self.now) (use_place place_use) (pass_view pass) (pass_view back)) }
+            × IsCreated (post_places self.now) (use_place place_use)
+            (pass_view pass) (pass_view back)) }
 
         // The pass tried to claim each place from 1 up. After that it found each of them not free.
         ensures full { IfFull result (λ back. IsPassOf self.now back

@@ -2,7 +2,7 @@ use Rattle.std.proofs.Common.{◌≡◌, ℕ, ◌+◌, ◌-◌, ◌<◌, ◌≤�
 use Rattle.std.proofs.Math.ListN.{get_or-append}
 use Rattle.std.proofs.lemmas.Bool.{cases_lt}
 use Rattle.std.proofs.lemmas.List.{get_or-map, get_or-append_right, length-map, map-append}
-use Rattle.post_core.specs.declared.owner.PlaceJobs.{PlaceJobs}
+use Rattle.post_core.specs.declared.records.PlaceJobs.{PlaceJobs}
 use Rattle.proxy_laws.specs.declared.records.OwnMark.{OwnMark}
 use Rattle.post_core.specs.declared.views.View.{View}
 use Rattle.post_core.specs.Kept.{listed}

@@ -15,8 +15,7 @@ count_put-nth-requires-clause-job g c =
     let o = pushes g.J.Meant.meaning c.args.place (record { mark = c.args.mark; job = c.args.job }) c.args.seat.now.me.0 c.wait_for_turn.new.seat.me c.push_held.new.seat.me t.0 c.args.seat.now.me.1 t.1 h.0 h.1 h.2 h.3 h.4 in (
       record { mark = c.args.mark; job = c.args.job },
       ap (λ (x : Me (RingView (Item g.row.J.Denot)) (View g.row.J-Meaning.Denot)). last_held x.1) o.is ∙ o.last,
-      c.requires.mark.0 ∙ ap (λ (x : Me (RingView (Item g.row.J.Denot)) (View g.row.J-Meaning.Denot)). (pass_of x.0).number) (sym o.is),
-      c.requires.mark.1 ∙ ap (λ (x : Me (RingView (Item g.row.J.Denot)) (View g.row.J-Meaning.Denot)). length (listed (pass_of x.0).own c.args.place)) (sym o.is),
+      (c.requires.mark.0 ∙ ap (λ (x : Me (RingView (Item g.row.J.Denot)) (View g.row.J-Meaning.Denot)). (pass_of x.0).number) (sym o.is), c.requires.mark.1 ∙ ap (λ (x : Me (RingView (Item g.row.J.Denot)) (View g.row.J-Meaning.Denot)). length (listed (pass_of x.0).own c.args.place)) (sym o.is)),
       c.requires.suits,
     )
 

@@ -3,7 +3,7 @@ use Rattle.std.proofs.Math.Seq.{map-set_same}
 use Rattle.std.proofs.lemmas.List.{get_or-set_same, length-set}
 use Rattle.std.proofs.lemmas.Option.{slice_get-get_or}
 use Rattle.std.specs.Prelude.{slice_set}
-use Rattle.post_core.specs.declared.owner.PlaceJobs.{PlaceJobs}
+use Rattle.post_core.specs.declared.records.PlaceJobs.{PlaceJobs}
 use Rattle.post_core.specs.OwnerViews.{room_here}
 use Rattle.post_core.proofs.taking.make_room.Goals as goal
 
