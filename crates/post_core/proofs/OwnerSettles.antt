@@ -11,7 +11,7 @@ use Rattle.post_core.specs.declared.records.StartedJob.{StartedJob}
 use Rattle.post_core.specs.declared.views.Held.{Held}
 use Rattle.post_core.specs.declared.views.View.{View}
 use Rattle.post_core.specs.Kept.{listed}
-use Rattle.post_core.specs.Parts.{IsOwner, IsOwnerAt, KeepsAll}
+use Rattle.post_core.specs.Parts.{IsOpen, IsOwner, IsOwnerAt, KeepsAll}
 use Rattle.post_core.specs.Records.{started_job}
 use Rattle.post_core.specs.Settles.{fate_kept, job_with_fate, kept_settled}
 use Rattle.post_core.specs.Steps.{IsActiveHere}
@@ -46,35 +46,21 @@ module _ {M : Type 0} (started : List (List StartedJob)) (taken : List ℕ) (p :
           (all q at_q).1 ∙ ap length (sym (get_or-set_other started p q (kept_settled n f (listed started p)) [] ne)),
         ))
 
-  -- the view after, where the job is known
-  as_known : (h : Held M) → slice_get row n ≡ Some h → settled_as p n f (Some h) v ≡ job_settled p n f v
-  as_known h at = ap (λ x. settled_as p n f x v) (sym at)
+  settled_open : (got : ℕ) → length started ≡ length taken → IsActiveHere row n → IsOpen started taken got v → IsOpen after taken got (job_settled p n f v)
+  settled_open got lists active o = let h = active.1 in subst (IsOpen after taken got) (ap (λ x. settled_as p n f x v) (sym h.1)) (record {
+    view = (o.view.0, refl);
+    state = o.state;
+    no_turn = o.no_turn;
+    no_ring = o.no_ring;
+    none_noticed = o.none_noticed;
+    got_is = o.got_is;
+    wide = o.wide;
+    rows = length-set (owner_of v).jobs p (set row n (settled_held f h.0)) ∙ o.rows;
+    kept = keeps_settled h.0 h.1 o.rows lists o.kept;
+  })
 
   pub owner_settles : (got : ℕ) → length started ≡ length taken → IsActiveHere row n → IsOwner started taken got v → IsOwner after taken got (job_settled p n f v)
-  owner_settles got lists active o = let h = active.1 in subst (IsOwner after taken got) (as_known h.0 h.1) (record {
-    view = (o.view.0, refl);
-    state = o.state;
-    no_turn = o.no_turn;
-    no_ring = o.no_ring;
-    none_noticed = o.none_noticed;
-    got_is = o.got_is;
-    away = o.away;
-    wide = o.wide;
-    rows = length-set (owner_of v).jobs p (set row n (settled_held f h.0)) ∙ o.rows;
-    kept = keeps_settled h.0 h.1 o.rows lists o.kept;
-  })
+  owner_settles got lists active o = record { stands = settled_open got lists active o.stands; away = o.away }
 
   pub owner_settles_at : (place : ℕ) (at_place : Serving) (got : ℕ) → length started ≡ length taken → IsActiveHere row n → IsOwnerAt place at_place started taken got v → IsOwnerAt place at_place after taken got (job_settled p n f v)
-  owner_settles_at place at_place got lists active o = let h = active.1 in subst (IsOwnerAt place at_place after taken got) (as_known h.0 h.1) (record {
-    view = (o.view.0, refl);
-    state = o.state;
-    no_turn = o.no_turn;
-    no_ring = o.no_ring;
-    none_noticed = o.none_noticed;
-    got_is = o.got_is;
-    here = o.here;
-    elsewhere = o.elsewhere;
-    wide = o.wide;
-    rows = length-set (owner_of v).jobs p (set row n (settled_held f h.0)) ∙ o.rows;
-    kept = keeps_settled h.0 h.1 o.rows lists o.kept;
-  })
+  owner_settles_at place at_place got lists active o = record { stands = settled_open got lists active o.stands; here = o.here; elsewhere = o.elsewhere }

@@ -38,33 +38,28 @@ module _ {M : Type 0} where
   abbrev pub KeepsAll : List (List StartedJob) → List ℕ → View M → Type 0
   KeepsAll started taken v = (p : ℕ) → p < length taken → (map started_job (listed (owner_of v).jobs p) ≡ listed started p) × (slice_index taken p ≡ length (listed started p))
 
-  -- The view is that of an open owner that has no turn and got so many notices. It does this at one place, and
-  -- nothing at any other.
-  pub record IsOwnerAt (place : ℕ) (at_place : Serving) (started : List (List StartedJob)) (taken : List ℕ) (got : ℕ) (v : View M) : Type 0 where
+  -- The view is that of an open owner that has no turn and got so many notices. It keeps these jobs by place.
+  pub record IsOpen (started : List (List StartedJob)) (taken : List ℕ) (got : ℕ) (v : View M) : Type 0 where
     pub view : IsOwnerView v
     pub state : (owner_of v).state ≡ owner.Open
     pub no_turn : (owner_of v).turn ≡ None
     pub no_ring : (owner_of v).ring ≡ []
     pub none_noticed : (owner_of v).noticed ≡ None
     pub got_is : (owner_of v).got ≡ got
-    pub here : serving_at place v ≡ at_place
-    pub elsewhere : (q : ℕ) → q ≢ place → serving_at q v ≡ serving.Away
     pub wide : length (owner_of v).serving ≡ length taken
     pub rows : length (owner_of v).jobs ≡ length taken
     pub kept : KeepsAll started taken v
 
-  -- The view is that of an open owner that works nowhere, has no turn and got so many notices.
+  -- it works nowhere
   pub record IsOwner (started : List (List StartedJob)) (taken : List ℕ) (got : ℕ) (v : View M) : Type 0 where
-    pub view : IsOwnerView v
-    pub state : (owner_of v).state ≡ owner.Open
-    pub no_turn : (owner_of v).turn ≡ None
-    pub no_ring : (owner_of v).ring ≡ []
-    pub none_noticed : (owner_of v).noticed ≡ None
-    pub got_is : (owner_of v).got ≡ got
+    pub stands : IsOpen started taken got v
     pub away : (q : ℕ) → serving_at q v ≡ serving.Away
-    pub wide : length (owner_of v).serving ≡ length taken
-    pub rows : length (owner_of v).jobs ≡ length taken
-    pub kept : KeepsAll started taken v
+
+  -- it does this at one place, and nothing at any other
+  pub record IsOwnerAt (place : ℕ) (at_place : Serving) (started : List (List StartedJob)) (taken : List ℕ) (got : ℕ) (v : View M) : Type 0 where
+    pub stands : IsOpen started taken got v
+    pub here : serving_at place v ≡ at_place
+    pub elsewhere : (q : ℕ) → q ≢ place → serving_at q v ≡ serving.Away
 
 -- what an owner does at a place whose jobs it starts so
 abbrev pub serving_of : Started → Serving

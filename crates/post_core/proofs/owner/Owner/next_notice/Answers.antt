@@ -11,7 +11,7 @@ open_not_closing : owner.Open ≡ owner.Closing → ⊥
 open_not_closing e = cc
 
 pub look_mail-found-requires-clause-owner : goal.look_mail-found-requires-clause-owner
-look_mail-found-requires-clause-owner g c = let o = (still_as (map (λ place. place.started.items) c.args.self.hold.jobs.items) (map (λ place. place.taken) c.args.self.hold.jobs.items) c.args.self.hold.got c.loop-word.word c.args.self.hold.seat.me.0 c.loop-word.seat.me.0 (ap (λ me. me.0) c.loop-word.invariant.1) c.args.self.is_owner) in (o.view, λ e. open_not_closing (sym o.state ∙ e))
+look_mail-found-requires-clause-owner g c = let o = (still_as (map (λ place. place.started.items) c.args.self.hold.jobs.items) (map (λ place. place.taken) c.args.self.hold.jobs.items) c.args.self.hold.got c.loop-word.word c.args.self.hold.seat.me.0 c.loop-word.seat.me.0 (ap (λ me. me.0) c.loop-word.invariant.1) c.args.self.is_owner) in (o.stands.view, λ e. open_not_closing (sym o.stands.state ∙ e))
 
 pub look_mail-found-requires-clause-away : goal.look_mail-found-requires-clause-away
 look_mail-found-requires-clause-away g c = (still_as (map (λ place. place.started.items) c.args.self.hold.jobs.items) (map (λ place. place.taken) c.args.self.hold.jobs.items) c.args.self.hold.got c.loop-word.word c.args.self.hold.seat.me.0 c.loop-word.seat.me.0 (ap (λ me. me.0) c.loop-word.invariant.1) c.args.self.is_owner).away
@@ -20,7 +20,7 @@ pub take_notice-requires-clause-owner : goal.take_notice-requires-clause-owner
 take_notice-requires-clause-owner g c =
     let o = (still_as (map (λ place. place.started.items) c.args.self.hold.jobs.items) (map (λ place. place.taken) c.args.self.hold.jobs.items) c.args.self.hold.got c.loop-word.word c.args.self.hold.seat.me.0 c.loop-word.seat.me.0 (ap (λ me. me.0) c.loop-word.invariant.1) c.args.self.is_owner) in
     subst (λ u. IsOwnerView u × ((owner_of u).state ≡ owner.Closing → ⊥)) (sym (ap (λ me. me.0) (c.look_mail-found.ensures.found c.if-found-ne0.true)))
-    ((o.view.0, refl), (λ e. open_not_closing (sym o.state ∙ e)))
+    ((o.stands.view.0, refl), (λ e. open_not_closing (sym o.stands.state ∙ e)))
 
 pub take_notice-requires-clause-away : goal.take_notice-requires-clause-away
 take_notice-requires-clause-away g c q =
@@ -29,7 +29,7 @@ take_notice-requires-clause-away g c q =
 pub overflow_add-result : goal.overflow_add-result
 overflow_add-result g c =
     let few = c.take_notice.ensures.few in
-    let is : (owner_of c.look_mail-found.new.seat.me.0).got ≡ c.args.self.hold.got = ap (λ me. (owner_of me.0).got) (c.look_mail-found.ensures.found c.if-found-ne0.true) ∙ (still_as (map (λ place. place.started.items) c.args.self.hold.jobs.items) (map (λ place. place.taken) c.args.self.hold.jobs.items) c.args.self.hold.got c.loop-word.word c.args.self.hold.seat.me.0 c.loop-word.seat.me.0 (ap (λ me. me.0) c.loop-word.invariant.1) c.args.self.is_owner).got_is in
+    let is : (owner_of c.look_mail-found.new.seat.me.0).got ≡ c.args.self.hold.got = ap (λ me. (owner_of me.0).got) (c.look_mail-found.ensures.found c.if-found-ne0.true) ∙ (still_as (map (λ place. place.started.items) c.args.self.hold.jobs.items) (map (λ place. place.taken) c.args.self.hold.jobs.items) c.args.self.hold.got c.loop-word.word c.args.self.hold.seat.me.0 c.loop-word.seat.me.0 (ap (λ me. me.0) c.loop-word.invariant.1) c.args.self.is_owner).stands.got_is in
     omega arith
 
 pub invariant_of-result : goal.invariant_of-result
