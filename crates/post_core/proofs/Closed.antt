@@ -39,7 +39,6 @@ use Rattle.post_core.specs.declared.views.View.{View}
 use Rattle.post_core.specs.Ending.{AgreesWithPass, AreEach, Ended, FoundTaken, IsIdle, IsInRecord, all_joined, total_of}
 use Rattle.proxy_laws.specs.OwnMarks.{own_from}
 use Rattle.proxy_laws.proofs.Promised.{nothing_waits_once_emptied}
-use Rattle.proxy_laws.specs.declared.actors.OwnerState.TheVariants as owner
 use Rattle.proxy_laws.specs.declared.actors.Serving.TheVariants as serving
 use Rattle.post_core.specs.Kept.{listed, kept_by, kept_from, marks_of}
 use Rattle.post_core.specs.Parts.{IsPass, IsEmptied}

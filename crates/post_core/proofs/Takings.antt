@@ -1,5 +1,5 @@
 -- What the table asks of the steps on the mailbox and at a place, from the fact that each is its event.
-use Rattle.std.proofs.Common.{slice_index, ◌≡◌, ◌≢◌, ℕ, ◌+◌, ◌-◌, ◌*◌, ◌%◌, ◌^◌, ◌<◌, ◌==◌, Some, None, List, [], length, refl, arith, ap, sym, ◌∙◌}
+use Rattle.std.proofs.Common.{slice_index, ◌≡◌, ◌≢◌, ℕ, ◌-◌, ◌*◌, ◌%◌, ◌^◌, ◌<◌, ◌==◌, Some, None, List, [], length, refl, arith, ap, sym, ◌∙◌}
 use Rattle.std.specs.Prelude.{IsTrue, ◌/◌, bit_and, bit_or}
 use Rattle.std.specs.Int.{bit_not, w64}
 use mathlib.Core.Logic.{dite}
