@@ -62,7 +62,7 @@ module _ {J M : Type 0} (meaning : J → M) (suits : ℕ → Mark → M → Type
   )
 
 -- a step that changes nothing
-unmoved : {S V : Type 0} (s : State S V) (i id : ℕ) (held : List (ℕ × S)) (v : V) (n : ℕ) → n ≡ slice_index s.words i → get_elem? s.views id ≡ some v → stepped s i n id held v keeps ≡ s
+pub unmoved : {S V : Type 0} (s : State S V) (i id : ℕ) (held : List (ℕ × S)) (v : V) (n : ℕ) → n ≡ slice_index s.words i → get_elem? s.views id ≡ some v → stepped s i n id held v keeps ≡ s
 unmoved s i id held v n is at = λ k. record { words = (ap (λ m. set s.words i m) is ∙ set-get_or s.words i 0) k; homes = s.homes; views = set_again s.views id v at k }
 
 module _ {J M : Type 0} (meaning : J → M) (suits : ℕ → Mark → M → Type 0) (senders places : ℕ) (slots id p : ℕ) (v : View M) (held : List (ℕ × RingView (Item J))) where

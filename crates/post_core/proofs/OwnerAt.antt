@@ -112,8 +112,8 @@ module _ {M : Type 0} (started : List (List StartedJob)) (taken : List ℕ) (got
     abbrev job : StartedJob
     job = record { mark = e.mark; started = start; fate = None }
 
-    pub starts_job : length started ≡ length taken → IsOwnerAt p (serving_of start) (set started p (listed started p ++ job ∷ [])) (set taken p (get_or taken p 0 + 1)) got (job_started p e v)
-    starts_job started_wide = let was = o.stands in let jobs_wide = was.rows in record {
+    started_so : length started ≡ length taken → IsOwnerAt p (serving_of start) (set started p (listed started p ++ job ∷ [])) (set taken p (get_or taken p 0 + 1)) got (job_started p e v)
+    started_so started_wide = let was = o.stands in let jobs_wide = was.rows in record {
       here = o.here;
       elsewhere = o.elsewhere;
       stands = record {
@@ -137,6 +137,10 @@ module _ {M : Type 0} (started : List (List StartedJob)) (taken : List ℕ) (got
             ));
       };
     }
+
+    pub starts_job : length started ≡ length taken → (now : List (List StartedJob)) (counts : List ℕ) (u : View M) → now ≡ set started p (listed started p ++ job ∷ []) → counts ≡ set taken p (get_or taken p 0 + 1) → u ≡ job_started p e v
+        → IsOwnerAt p (serving_of start) now counts got u
+    starts_job lists now counts u now_is counts_are u_is = subst (λ (x : List (List StartedJob) × List ℕ × View M). IsOwnerAt p (serving_of start) x.0 x.1 got x.2) (λ i. (sym now_is i, sym counts_are i, sym u_is i)) (started_so lists)
 
   -- the owner finds no job waiting at p
   pub empties : (p : ℕ) → p < length taken → (at_place : Serving) (v : View M) → IsOwnerAt p at_place started taken got v → IsOwnerAt p (serving_after_look at_place) started taken got (place_emptied p v)

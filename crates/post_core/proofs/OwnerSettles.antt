@@ -22,7 +22,7 @@ module _ {M : Type 0} (started : List (List StartedJob)) (taken : List ℕ) (p :
   row = listed (owner_of v).jobs p
 
   -- the jobs by place once this one is settled
-  abbrev pub after : List (List StartedJob)
+  abbrev after : List (List StartedJob)
   after = set started p (kept_settled n f (listed started p))
 
   module _ (h : Held M) (at : slice_get row n ≡ Some h) (rows : length (owner_of v).jobs ≡ length taken) (lists : length started ≡ length taken) (all : KeepsAll started taken v) where
@@ -59,8 +59,13 @@ module _ {M : Type 0} (started : List (List StartedJob)) (taken : List ℕ) (p :
     kept = keeps_settled h.0 h.1 o.rows lists o.kept;
   })
 
-  pub owner_settles : (got : ℕ) → length started ≡ length taken → IsActiveHere row n → IsOwner started taken got v → IsOwner after taken got (job_settled p n f v)
-  owner_settles got lists active o = record { stands = settled_open got lists active o.stands; away = o.away }
+  -- what the owner keeps now is what it kept with this job settled
+  module _ (got : ℕ) (lists : length started ≡ length taken) (active : IsActiveHere row n) (now : List (List StartedJob)) (counts : List ℕ) (u : View M) (now_is : now ≡ after) (counts_are : counts ≡ taken) (u_is : u ≡ job_settled p n f v) where
+    moved : (P : List (List StartedJob) → List ℕ → View M → Type 0) → P after taken (job_settled p n f v) → P now counts u
+    moved P all = subst (λ (x : List (List StartedJob) × List ℕ × View M). P x.0 x.1 x.2) (λ i. (sym now_is i, sym counts_are i, sym u_is i)) all
 
-  pub owner_settles_at : (place : ℕ) (at_place : Serving) (got : ℕ) → length started ≡ length taken → IsActiveHere row n → IsOwnerAt place at_place started taken got v → IsOwnerAt place at_place after taken got (job_settled p n f v)
-  owner_settles_at place at_place got lists active o = record { stands = settled_open got lists active o.stands; here = o.here; elsewhere = o.elsewhere }
+    pub owner_settles : IsOwner started taken got v → IsOwner now counts got u
+    owner_settles o = moved (λ kept so_many w. IsOwner kept so_many got w) (record { stands = settled_open got lists active o.stands; away = o.away })
+
+    pub owner_settles_at : (place : ℕ) (at_place : Serving) → IsOwnerAt place at_place started taken got v → IsOwnerAt place at_place now counts got u
+    owner_settles_at place at_place o = moved (λ kept so_many w. IsOwnerAt place at_place kept so_many got w) (record { stands = settled_open got lists active o.stands; here = o.here; elsewhere = o.elsewhere })

@@ -226,7 +226,7 @@ module _ {J M : Type 0} (meaning : J → M) (suits : ℕ → Mark → M → Type
   CreateTells found m' = (found ≡ 0 → (m' ≡ (place_created p v, held)) × (slice_index (pass_of (place_created p v)).uses p ≡ 1)) × (found ≢ 0 → m' ≡ (place_found p v, held))
 
   pub create_allowed : p < places → p ≢ 0 → IsPassView v → Allows (Shown meaning suits senders places) slots id (v, held) (life_at p) (λ n. either (n == 0) 3 n) CreateTells
-  create_allowed near other is s r wide at fits =
+  create_allowed near other is s r wide at small =
       exchanged (slice_index s.words (life_at p)) 0 3
       (λ y. (x : View M) × (a : Rattle.atomic_table.specs.Table.Act (RingView (Item J))) × Rattle.atomic_table.specs.Table.Valid s.homes held a × Shown meaning suits senders places (stepped s (life_at p) y id held x a) × CreateTells (slice_index s.words (life_at p)) (x, Rattle.atomic_table.specs.Table.carried_after held a))
       (λ hit. (place_created p v, keeps, tt, (creates meaning suits senders places s r id p v held at is near other (sym (r.words.life_is p near) ∙ hit)).1.0, ((λ e. (refl, one_use meaning suits senders places s r id p v held at is near other (sym (r.words.life_is p near) ∙ hit))), (λ ne. absurd (ne hit)))))

@@ -26,15 +26,12 @@ use Rattle.post_core.specs.SendSteps.{added_ref, counted_put, dropped_ref, last_
 use Rattle.post_core.specs.Steps.{all_meant}
 use Rattle.post_core.specs.Views.{IsPassView, at_phase, job_put, pass_of}
 use Rattle.post_core.specs.Words.{note_at, put_at, refs_at, turn_at}
+use Rattle.post_core.proofs.Allowed.{unmoved}
 use Rattle.post_core.proofs.Members.{one_at}
 use Rattle.post_core.proofs.PutStep.{puts}
 use Rattle.post_core.proofs.SendRefs.{adds_ref, drops_ref, few_refs, has_ref, loads_refs, not_seen_closed}
 use Rattle.post_core.proofs.SendTurns.{gives_turn, takes_turn}
 use Rattle.post_core.proofs.Sending.{swaps_note}
-
--- a step that changes nothing
-unmoved : {S V : Type 0} (s : State S V) (i id : ℕ) (held : List (ℕ × S)) (v : V) (n : ℕ) → n ≡ slice_index s.words i → get_elem? s.views id ≡ some v → stepped s i n id held v keeps ≡ s
-unmoved s i id held v n is at = λ k. record { words = (ap (λ m. set s.words i m) is ∙ set-get_or s.words i 0) k; homes = s.homes; views = set_again s.views id v at k }
 
 module _ {M : Type 0} where
   -- the numbers that a pass keeps are below the count

@@ -1,8 +1,7 @@
 use Rattle.std.proofs.Common.{◌<◌, map, length, arith, ap, sym, subst, ◌∙◌}
 use Rattle.std.proofs.lemmas.List.{length-map}
-use Rattle.post_core.specs.Parts.{IsOwnerAt, serving_of}
-use Rattle.post_core.specs.Views.{job_settled}
-use Rattle.post_core.proofs.OwnerSettles.{after, owner_settles_at}
+use Rattle.post_core.specs.Parts.{serving_of}
+use Rattle.post_core.proofs.OwnerSettles.{owner_settles_at}
 use Rattle.post_core.proofs.owner.Exec.settle.Goals as goal
 
 pub invariant_of-self : goal.invariant_of-self
@@ -11,15 +10,11 @@ invariant_of-self g c =
     let started = map (λ place. place.started.items) jobs in
     let taken = map (λ place. place.taken) jobs in
     let view = c.args.self.now.hold.seat.me.0 in
-    let next = job_settled c.args.place c.args.nth c.args.fate view in
     let near : c.args.place < length taken = let a = c.args.self.now.empty.1 in let b = ap (λ t. t.slots) c.requires.table in let d = c.args.post.now.sized.1 in let e = c.requires.near in omega (arith, length-map jobs (λ place. place.taken)) in
     let lists = length-map jobs (λ place. place.started.items) ∙ sym (length-map jobs (λ place. place.taken)) in
     let table_is = ap (λ t. t.slots) (sym c.settle-note.ensures.seat.0) in
     record {
-      is_exec = subst (IsOwnerAt c.args.self.now.place (serving_of c.args.self.now.start) (map (λ place. place.started.items) c.keep_fate.new.jobs.items) (map (λ place. place.taken) c.keep_fate.new.jobs.items) c.args.self.now.hold.got) (sym (ap (λ me. me.0) c.settle-note.ensures.settled))
-          (subst (λ kept. IsOwnerAt c.args.self.now.place (serving_of c.args.self.now.start) kept (map (λ place. place.taken) c.keep_fate.new.jobs.items) c.args.self.now.hold.got next) (sym c.keep_fate.ensures.started)
-          (subst (λ counts. IsOwnerAt c.args.self.now.place (serving_of c.args.self.now.start) (after started taken c.args.place near c.args.nth c.args.fate view) counts c.args.self.now.hold.got next) (sym c.keep_fate.ensures.taken)
-          (owner_settles_at started taken c.args.place near c.args.nth c.args.fate view c.args.self.now.place (serving_of c.args.self.now.start) c.args.self.now.hold.got lists c.requires.active c.args.self.now.is_exec)));
+      is_exec = owner_settles_at started taken c.args.place near c.args.nth c.args.fate view c.args.self.now.hold.got lists c.requires.active _ _ _ c.keep_fate.ensures.started c.keep_fate.ensures.taken (ap (λ me. me.0) c.settle-note.ensures.settled) c.args.self.now.place (serving_of c.args.self.now.start) c.args.self.now.is_exec;
       empty = (
         ap (λ me. me.1) c.settle-note.ensures.settled ∙ c.args.self.now.empty.0,
         sym (length-map c.keep_fate.new.jobs.items (λ place. place.taken)) ∙ (ap length c.keep_fate.ensures.taken ∙ (length-map jobs (λ place. place.taken) ∙ (c.args.self.now.empty.1 ∙ table_is))),

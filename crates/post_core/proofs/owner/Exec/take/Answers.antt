@@ -17,10 +17,8 @@ invariant_of-result g c =
     let entry : Entry g.row.J-Meaning.Denot = record { mark = c.in-Some.field-0-1.mark; meaning = g.J.Meant.meaning c.in-Some.field-0-1.job } in
     let me_is = c.in-Some.ensures.job in
     record {
-      is_exec = subst (IsOwnerAt p (serving_of c.args.self.start) (map (λ place. place.started.items) c.keep_started.new.jobs.items) (map (λ place. place.taken) c.keep_started.new.jobs.items) c.args.self.hold.got) (sym (ap (λ me. me.0) me_is))
-          (subst (λ kept. IsOwnerAt p (serving_of c.args.self.start) kept (map (λ place. place.taken) c.keep_started.new.jobs.items) c.args.self.hold.got (job_started p entry c.args.self.hold.seat.me.0)) (sym c.keep_started.ensures.started)
-          (subst (λ counts. IsOwnerAt p (serving_of c.args.self.start) (slice_set started p (listed started p ++ record { mark = c.in-Some.field-0-1.mark; started = c.args.self.start; fate = None } ∷ [])) counts c.args.self.hold.got (job_started p entry c.args.self.hold.seat.me.0)) (sym c.keep_started.ensures.taken)
-          (starts_job started taken c.args.self.hold.got p (let a = c.args.self.empty.1 in let b = c.args.self.near in omega (arith, length-map c.args.self.hold.jobs.items (λ place. place.taken))) c.args.self.start c.args.self.runs c.args.self.hold.seat.me.0 c.args.self.is_exec entry (length-map c.args.self.hold.jobs.items (λ place. place.started.items) ∙ sym (length-map c.args.self.hold.jobs.items (λ place. place.taken))))));
+      is_exec = starts_job started taken c.args.self.hold.got p (let a = c.args.self.empty.1 in let b = c.args.self.near in omega (arith, length-map c.args.self.hold.jobs.items (λ place. place.taken))) c.args.self.start c.args.self.runs c.args.self.hold.seat.me.0 c.args.self.is_exec entry (length-map c.args.self.hold.jobs.items (λ place. place.started.items) ∙ sym (length-map c.args.self.hold.jobs.items (λ place. place.taken)))
+          _ _ _ c.keep_started.ensures.started c.keep_started.ensures.taken (ap (λ me. me.0) me_is);
       runs = c.args.self.runs;
       empty = (ap (λ me. me.1) me_is, sym (length-map c.keep_started.new.jobs.items (λ place. place.taken)) ∙ (ap length c.keep_started.ensures.taken ∙ (length-set taken p (slice_index taken p + 1) ∙ (length-map c.args.self.hold.jobs.items (λ place. place.taken) ∙ (c.args.self.empty.1 ∙ ap (λ t. t.slots) (sym c.in-Some.ensures.seat.0))))));
       near = subst (λ t. p < t.slots) (sym c.in-Some.ensures.seat.0) c.args.self.near;
