@@ -13,4 +13,5 @@ pub mod Relocations
 pub mod Soundness
 pub mod Refusals
 pub mod Printed
+pub mod Pending
 pub mod Counted

@@ -90,7 +90,7 @@ impl Directories {
             (dir_of node) to) replaced) }
         ensures err { OnErr result (self.new ≡ self.old) }
     {
-        let child = directory_of(&node);
+        let child = node.directory();
         self.enter(to, other, node)?;
         self.unlink(from, name);
         self.set_parent(child, to);
@@ -124,18 +124,8 @@ fn move_answer(over: Option<&Node>) -> NameAnswer
     }
 }
 
-/// The directory that a node is.
-fn directory_of(node: &Node) -> Option<u64>
-    ensures { result ≡ dir_of node.now }
-{
-    match node {
-        Node::Dir(id) => Some(*id),
-        _ => None,
-    }
-}
-
 fn directory_in(over: Option<&Node>) -> Option<u64>
     ensures { result ≡ dir_in (option_copied over.entry) }
 {
-    directory_of(over?)
+    over?.directory()
 }

@@ -1,5 +1,6 @@
 ghost use Rattle.std.specs.Prelude.{◌≡◌, IfOk, IsOk};
 ghost use Rattle.name_store.specs.Forms.{IsPlain};
+ghost use Rattle.name_store.specs.NameTrees.{dir_of};
 
 use crate::name_list::NameList;
 use std::alloc::AllocError;
@@ -30,6 +31,16 @@ impl Node {
             Node::Link(id, text) => Ok(Node::Link(*id, text.clone()?)),
             Node::File(file) => Ok(Node::File(*file)),
             Node::Mount(backend) => Ok(Node::Mount(*backend)),
+        }
+    }
+
+    /// The directory that it is.
+    pub(crate) fn directory(&self) -> Option<u64>
+        ensures { result ≡ dir_of self.now }
+    {
+        match self {
+            Node::Dir(id) => Some(*id),
+            _ => None,
         }
     }
 }
