@@ -1,3 +1,4 @@
+pub mod Outcomes
 pub mod Slots
 pub mod Formed
 pub mod Entries

@@ -10,7 +10,7 @@ use Rattle.name_store.proofs.Edits.{Edit, edited, entry, live, parents_there, ro
 use Rattle.name_store.proofs.Transitions.{some, same_some, none_some, is_dir}
 
 -- the entry `name` of `from` is moved to the place `to`, `other`, where `over` is. Where it is a directory, that has
--- `to` above it then, and was not met on the way up from there; where `over` is one, that is empty and no more.
+-- `to` as its parent then, and was not met on the way up from there; where `over` is one, that is empty and no more.
 pub record Moves (old new : Tree) (from : ℕ) (name : List ℕ) (to : ℕ) (other : List ℕ) (node : Node) (over : Option Node) : Type 0 where
   pub stood : node_at old from name ≡ Some node
   pub stood_over : node_at old to other ≡ over
@@ -121,7 +121,7 @@ module _ (old new : Tree) (from : ℕ) (name : List ℕ) (to : ℕ) (other : Lis
   new_there : (id parent : ℕ) → parent_at new id ≡ Some parent → (next : ℕ) × (parent_at new parent ≡ Some next)
   new_there = parents_there new moved_edit.root (entry old new Kept to other (Some node) sound moved_edit)
 
-  -- a directory that is not moved has the same above it
+  -- a directory that is not moved has the same parent
   stays_parent : (id parent : ℕ) → (dir_of node ≡ Some id → ⊥) → parent_at new id ≡ Some parent → parent_at old id ≡ Some parent
   stays_parent id parent no_child h =
       elim (moved_parents id parent h) [

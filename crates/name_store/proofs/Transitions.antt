@@ -3,8 +3,8 @@ use Rattle.std.proofs.Common.{◌≡◌, ◌≢◌, ℕ, ◌<◌, ◌≤◌, ◌
 use Rattle.name_store.specs.declared.operation.Node.{Node}
 use Rattle.name_store.specs.declared.operation.Node.TheVariants.{Dir, Link, File, Mount}
 use Rattle.name_store.specs.NameTrees.{Tree, dir_of, up}
-use Rattle.name_store.specs.Sound.{node_at, parent_of, parent_at, id_of, climb, IsSound}
-use Rattle.name_store.proofs.Changes.{Apart, Ordered, past, same_id, same_place}
+use Rattle.name_store.specs.Sound.{node_at, parent_at, id_of, climb, IsSound}
+use Rattle.name_store.proofs.Changes.{Apart, Ordered, same_id, same_place}
 use Rattle.name_store.proofs.Climbs.{climb_same, parent_within, reached, up_is}
 use Rattle.name_store.proofs.Edits.{Edit, edited, entry, parents_there, root_up, sound_parents}
 
@@ -33,7 +33,7 @@ id_given tree sound place name (Mount backend) id h e = cc
 pub none_some : {X : Type 0} (o : Option X) (x : X) → o ≡ None → o ≡ Some x → ⊥
 none_some o x e f = cc
 
--- a node under a name that was absent; `last` is what the next id has above it then, where it is a directory
+-- a node under a name that was absent; `last` is the next id's parent then, where that is a directory
 pub record Grows (old new : Tree) (place : ℕ) (name : List ℕ) (node : Node) (last : Option ℕ) : Type 0 where
   pub absent : node_at old place name ≡ None
   pub there : (parent : ℕ) × (parent_at old place ≡ Some parent)

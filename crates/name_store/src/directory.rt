@@ -6,12 +6,12 @@ use crate::operation::Node;
 use std::alloc::{AllocError, Global};
 use std::collections::{BTreeMap, btree_map};
 use std::marker::Model;
-use wf_core::{LIST_MAX, Name};
+use wf_core::{DirId, LIST_MAX, Name};
 
 /// A directory, seen as its parent's id and its entries in byte order.
 #[derive(Drop)]
 pub(crate) struct Directory {
-    parent: u64,
+    parent: DirId,
     entries: BTreeMap<Name, Node>,
 }
 
@@ -22,7 +22,7 @@ impl Model for Directory {
 }
 
 impl Directory {
-    pub(crate) fn new(alloc: Global, parent: u64) -> Directory
+    pub(crate) fn new(alloc: Global, parent: DirId) -> Directory
         ensures { result ≡ empty_in parent }
     {
         Directory {
@@ -31,7 +31,7 @@ impl Directory {
         }
     }
 
-    pub(crate) fn parent(&self) -> u64
+    pub(crate) fn parent(&self) -> DirId
         ensures { result ≡ self.now.parent }
     {
         self.parent
@@ -85,7 +85,7 @@ impl Directory {
         let _ = self.entries.remove(name);
     }
 
-    pub(crate) fn set_parent(&mut self, parent: u64)
+    pub(crate) fn set_parent(&mut self, parent: DirId)
         ensures { self.new ≡ with_parent self.old parent }
     {
         self.parent = parent;

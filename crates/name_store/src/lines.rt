@@ -8,7 +8,7 @@ use crate::operation::Node;
 use crate::tree_line::{TreeLine, line_of};
 use std::alloc::{AllocError, Global};
 use std::collections::btree_map;
-use wf_core::{Name, Text};
+use wf_core::{DirId, Name, Text};
 
 impl Directories {
     /// The lines of the tree, from the root downwards. A tree of 2^32 ids or more has none: it is want of memory.
@@ -19,10 +19,11 @@ impl Directories {
             return Err(AllocError);
         };
         let mut lines = Vec::new(alloc);
-        lines.push(TreeLine::Dir(0, Text::read(alloc, b"/")?))?;
+        let name = Text::read(alloc, b"/")?;
+        lines.push(TreeLine::Dir { depth: 0, name })?;
         // What is left of each directory on the way down, so that the way may be as long as memory allows.
         let mut way = Vec::new(alloc);
-        self.descend(0, &mut way)?;
+        self.descend(DirId::ROOT, &mut way)?;
         while let Some(mut entries) = way.pop() {
             let Some((name, node)) = entries.next() else {
                 continue;
@@ -44,7 +45,7 @@ impl Directories {
     /// Goes into a directory, where there is one.
     fn descend<'a>(
         &'a self,
-        id: u64,
+        id: DirId,
         way: &mut Vec<btree_map::Iter<'a, Name, Node>>,
     ) -> Result<(), AllocError>
         ensures { OnOk result (way.new.items ≡ way.old.items
