@@ -160,10 +160,10 @@ climb_same old new On on same zero id h = refl
 climb_same old new On on same (suc steps) id h =
     ap (λ (i : ℕ). climb new steps i) (same id h) ∙ climb_same old new On on same steps (up old id) (on id h)
 
-inside_here : (tree : Tree) (top steps id : ℕ) → id ≡ top → is_inside (suc steps) tree top id ≡ true
+pub inside_here : (tree : Tree) (top steps id : ℕ) → id ≡ top → is_inside (suc steps) tree top id ≡ true
 inside_here tree top steps id e = rw (is_same id top e) refl
 
-inside_up : (tree : Tree) (top steps id : ℕ) → id ≢ top → id ≢ 0 → is_inside (suc steps) tree top id ≡ is_inside steps tree top (up tree id)
+pub inside_up : (tree : Tree) (top steps id : ℕ) → id ≢ top → id ≢ 0 → is_inside (suc steps) tree top id ≡ is_inside steps tree top (up tree id)
 inside_up tree top steps id ne some = rw (is_other id top ne, is_other id 0 some) refl
 
 outside_few : (tree : Tree) (top steps id : ℕ) → top ≢ 0 → up tree 0 ≡ 0 → is_inside steps tree top id ≡ false → (k : ℕ) → k < steps → climb tree k id ≢ top

@@ -13,6 +13,9 @@ pub mod Takings
 pub mod Relocations
 pub mod Soundness
 pub mod Refusals
+pub mod Shapes
+pub mod EntryLemmas
+pub mod IdLemmas
 pub mod Printed
 pub mod Pending
 pub mod Counted

@@ -9,10 +9,9 @@ use Rattle.name_store.specs.declared.operation.Node.TheVariants.{Dir, Link, File
 use Rattle.name_store.specs.declared.operation.NameOp.{NameOp}
 use Rattle.name_store.specs.declared.operation.NameOp.TheVariants.{Look, Parent, Makedir, Addlink, Addfile, Remfile, Remdir, Move, List as ListOp}
 use Rattle.name_store.specs.NameTrees.{Tree, Listing, NamesOutcome, byte_order, dir_at, dir_in, dir_of, empty_in, entry_at, addfile_outcome_at, is_empty, is_inside, is_same_entry, addlink_outcome_at, makedir_outcome_at, mount_fault, move_fault, move_outcome_at, nstep, opening, over_fault, remdir_outcome_at, remdir_child_outcome, remfile_outcome_at, with_entry, with_mount}
-use Rattle.name_store.specs.Sound.{node_in, node_at, parent_of, parent_at, id_of, climb, IsSound}
+use Rattle.name_store.specs.Sound.{AreApart, node_in, node_at, parent_of, parent_at, id_of, climb, IsSound}
 use Rattle.name_store.proofs.Entries.{entered_here, entered_other, entered_sorted, same_name, apart_names}
 use Rattle.name_store.proofs.Outcomes.{in_allowed, in_apart, in_there}
-use Rattle.name_store.proofs.Changes.{Apart}
 use Rattle.name_store.proofs.Transitions.{some}
 use Rattle.name_store.proofs.Orders.{Sorted}
 use Rattle.name_store.proofs.Makings.{filed_sound, grown_sound, linked_sound}
@@ -105,7 +104,7 @@ module _ (tree : Tree) (sound : IsSound tree) where
   filed_at id name file directory None there h = filed_sound tree id name directory sound there h file
 
   -- what stands in a directory that is there
-  stood : (id : ℕ) (name : List ℕ) (directory : Listing) (node : Node) → dir_at tree id ≡ Some directory → entry_at directory name ≡ Some node → node_at tree id name ≡ Some node
+  pub stood : (id : ℕ) (name : List ℕ) (directory : Listing) (node : Node) → dir_at tree id ≡ Some directory → entry_at directory name ≡ Some node → node_at tree id name ≡ Some node
   stood id name directory node there h = ap (λ (d : Option Listing). node_in d name) there ∙ h
 
   unfiled_at : (id : ℕ) (name : List ℕ) (slash : Bool) (directory : Listing) (node : Option Node) → dir_at tree id ≡ Some directory → entry_at directory name ≡ node → Stays (remfile_outcome_at tree id name slash node)
@@ -137,7 +136,7 @@ module _ (tree : Tree) (sound : IsSound tree) where
   chosen_not fault false h = cc
 
   -- a directory that may be moved is not moved into itself
-  not_inside : (node : Node) (to : ℕ) (slash : Bool) (id : ℕ) → move_fault tree node to slash ≡ None → dir_of node ≡ Some id → is_inside (length tree) tree id to ≡ false
+  pub not_inside : (node : Node) (to : ℕ) (slash : Bool) (id : ℕ) → move_fault tree node to slash ≡ None → dir_of node ≡ Some id → is_inside (length tree) tree id to ≡ false
   not_inside (Dir child) to slash id h e =
       let same : child ≡ id = cc in
       ap (λ (i : ℕ). is_inside (length tree) tree i to) (sym same) ∙ chosen _ (is_inside (length tree) tree child to) h
@@ -146,7 +145,7 @@ module _ (tree : Tree) (sound : IsSound tree) where
   not_inside (Mount backend) to slash id h e = cc
 
   -- a directory that may be replaced is empty
-  replaced_empty : (node : Node) (over : Option Node) (id : ℕ) → over_fault tree node over ≡ None → dir_in over ≡ Some id → is_empty (dir_at tree id) ≡ true
+  pub replaced_empty : (node : Node) (over : Option Node) (id : ℕ) → over_fault tree node over ≡ None → dir_in over ≡ Some id → is_empty (dir_at tree id) ≡ true
   replaced_empty node None id h e = cc
   replaced_empty (Dir child) (Some (Dir other)) id h e =
       let same : other ≡ id = cc in
@@ -166,7 +165,7 @@ module _ (tree : Tree) (sound : IsSound tree) where
       ∙ ap (λ (b : Bool). b && pointwise nat_eq name name) (let one : (from == from) ≡ true = grind (arith, nat_tests) in one)
       ∙ nat_list_eq_equiv.refl name
 
-  apart_entries : (from : ℕ) (name : List ℕ) (to : ℕ) (other : List ℕ) → is_same_entry from name to other ≡ false → Apart from name to other
+  pub apart_entries : (from : ℕ) (name : List ℕ) (to : ℕ) (other : List ℕ) → is_same_entry from name to other ≡ false → AreApart from name to other
   apart_entries from name to other h e f = (let clash : true ≡ false = sym (both_same from name to other e f) ∙ h in cc)
 
   moved_at : (from : ℕ) (name : List ℕ) (to : ℕ) (other : List ℕ) (slash : Bool) (source target : Listing) (node over : Option Node) → dir_at tree from ≡ Some source → dir_at tree to ≡ Some target → entry_at source name ≡ node → entry_at target other ≡ over → Stays (move_outcome_at tree from name to other slash node over)

@@ -15,6 +15,10 @@ node_in (Some directory) name = entry_at directory name
 abbrev pub node_at : Tree → ℕ → List ℕ → Option Node
 node_at tree id name = node_in (dir_at tree id) name
 
+-- another name, or a name in another directory
+abbrev pub AreApart : ℕ → List ℕ → ℕ → List ℕ → Type 0
+AreApart id name other other_name = other ≡ id → other_name ≡ name → ⊥
+
 -- the parent of directory `id`, where that is there
 abbrev pub parent_of : Option Listing → Option ℕ
 parent_of None = None
