@@ -27,7 +27,7 @@ impl Directories {
     ) -> Result<Directories, AllocError>
         ensures { IfOk result (λ tree. tree ≡ opening mounts.items) }
     {
-        let mut root = Directory::new(alloc, DirId::ROOT);
+        let mut root = Directory::new(alloc, DirId::ROOT)?;
         for (name, backend) in mounts {
             root.enter(name, Node::Mount(backend))?;
         }
@@ -159,10 +159,10 @@ impl Directories {
         ensures err { OnErr result (self.new ≡ self.old) }
     {
         let made = DirId::new(self.next_id());
+        let directory = Directory::new(self.alloc(), id)?;
         self.slots.reserve(1)?;
         enter_slot(&mut self.slots[id.number() as usize], name, Node::Dir(made))?;
-        let alloc = *self.slots.allocator();
-        self.slots.push_reserved(Some(Directory::new(alloc, id)));
+        self.slots.push_reserved(Some(directory));
         Ok(made)
     }
 

@@ -5,6 +5,7 @@ use std::test::Fail;
 use wf_core::{BackendId, DirId, FileId, Name, PathText, Text};
 
 mod depth;
+mod limits;
 mod lists;
 mod moves;
 mod rows;

@@ -12,5 +12,5 @@ returns-clause-ok c =
     c.requires
     c.index_mut.ensures.value
     c.in_ok-enter_slot.ensures.ok
-    (ap Some c.new.ensures)
+    (ap Some c.in_ok-directory.ensures)
     c.push_reserved.ensures.items
