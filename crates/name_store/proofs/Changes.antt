@@ -4,7 +4,7 @@ use Rattle.std.specs.Map.{keys_of}
 use Rattle.std.specs.List.Sorted.{IsStrictlySortedBy}
 use Rattle.name_store.specs.declared.operation.Node.{Node}
 use Rattle.name_store.specs.NameTrees.{Tree, Listing, byte_order, in_slot, dir_at, entry_at, with_change_at, with_entry_at, without_entry_at, with_parent_at, without_directory, with_entry, without_entry, with_parent}
-use Rattle.name_store.specs.Sound.{node_in, node_at, parent_of, parent_at}
+use Rattle.name_store.specs.Sound.{AreApart, node_in, node_at, parent_of, parent_at}
 use Rattle.name_store.proofs.Entries.{same_name, apart_names, entered_here, entered_other, removed_here, removed_other}
 
 -- two numbers are one, or apart
@@ -15,10 +15,7 @@ same_id (suc a) zero = inr (λ e. omega (arith, e))
 same_id (suc a) (suc b) = elim (same_id a b) [ inl e ↦ inl (ap suc e) | inr ne ↦ inr (λ e. ne (omega (arith, e))) ]
 
 -- two places are one, or apart
-abbrev pub Apart : ℕ → List ℕ → ℕ → List ℕ → Type 0
-Apart id name first other = first ≡ id → other ≡ name → ⊥
-
-pub same_place : (id : ℕ) (name : List ℕ) (first : ℕ) (other : List ℕ) → ((first ≡ id) × (other ≡ name)) ⊎ Apart id name first other
+pub same_place : (id : ℕ) (name : List ℕ) (first : ℕ) (other : List ℕ) → ((first ≡ id) × (other ≡ name)) ⊎ AreApart id name first other
 same_place id name first other =
     elim (same_id first id) [
       | inl e ↦ elim (same_name other name) [
@@ -112,7 +109,7 @@ entered_at tree id parent name node h =
     ap (λ (d : Option Listing). node_in d name) (put_changes tree id (λ d. with_entry d name node)).here
     ∙ there_in (dir_at tree id) parent name node h
 
-pub entered_apart : (tree : Tree) (id : ℕ) (name : List ℕ) (node : Node) (first : ℕ) (other : List ℕ) → Apart id name first other → node_at (with_entry_at tree id name node) first other ≡ node_at tree first other
+pub entered_apart : (tree : Tree) (id : ℕ) (name : List ℕ) (node : Node) (first : ℕ) (other : List ℕ) → AreApart id name first other → node_at (with_entry_at tree id name node) first other ≡ node_at tree first other
 entered_apart tree id name node first other apart =
     let c = put_changes tree id (λ d. with_entry d name node) in
     elim (same_id first id) [
@@ -143,7 +140,7 @@ unlinked_at tree id name sorted =
     ap (λ (d : Option Listing). node_in d name) (put_changes tree id (λ d. without_entry d name)).here
     ∙ gone_in (dir_at tree id) name sorted
 
-pub unlinked_apart : (tree : Tree) (id : ℕ) (name : List ℕ) (first : ℕ) (other : List ℕ) → Apart id name first other → node_at (without_entry_at tree id name) first other ≡ node_at tree first other
+pub unlinked_apart : (tree : Tree) (id : ℕ) (name : List ℕ) (first : ℕ) (other : List ℕ) → AreApart id name first other → node_at (without_entry_at tree id name) first other ≡ node_at tree first other
 unlinked_apart tree id name first other apart =
     let c = put_changes tree id (λ d. without_entry d name) in
     elim (same_id first id) [

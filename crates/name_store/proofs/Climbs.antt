@@ -2,7 +2,7 @@
 use Rattle.std.proofs.Common.{◌≡◌, ◌≢◌, ℕ, ◌<◌, ◌≤◌, ◌+◌, ◌-◌, ◌==◌, zero, suc, Bool, true, false, if◌then◌else◌, ◌⊎◌, inl, inr, length, Option, None, Some, refl, sym, ap, ◌∙◌, arith}
 use Rattle.std.proofs.lemmas.Bool.{cases_lt}
 use Rattle.std.proofs.lemmas.Bool.Decides.{nat_tests}
-use Rattle.name_store.specs.NameTrees.{Tree, Listing, above, dir_at, is_inside, up}
+use Rattle.name_store.specs.NameTrees.{Tree, Listing, parent_or_root, dir_at, is_inside, up}
 use Rattle.name_store.specs.Sound.{parent_of, parent_at, climb}
 use Rattle.name_store.proofs.Changes.{same_id, dir_within}
 
@@ -55,13 +55,13 @@ pigeon (suc size) (suc last) f within apart =
           ]
         ]
 
-above_is : (directory : Option Listing) (parent : ℕ) → parent_of directory ≡ Some parent → above directory ≡ parent
-above_is None parent h = cc
-above_is (Some directory) parent h = cc
+parent_or_root_is : (directory : Option Listing) (parent : ℕ) → parent_of directory ≡ Some parent → parent_or_root directory ≡ parent
+parent_or_root_is None parent h = cc
+parent_or_root_is (Some directory) parent h = cc
 
--- the directory above one that is there
+-- the parent of one that is there
 pub up_is : (tree : Tree) (id parent : ℕ) → parent_at tree id ≡ Some parent → up tree id ≡ parent
-up_is tree id parent h = above_is (dir_at tree id) parent h
+up_is tree id parent h = parent_or_root_is (dir_at tree id) parent h
 
 some_within : (tree : Tree) (id parent : ℕ) (directory : Option Listing) → dir_at tree id ≡ directory → parent_of directory ≡ Some parent → id < length tree
 some_within tree id parent None e h = cc
@@ -154,16 +154,16 @@ reaches_root tree id parent steps root there h reaches =
     let few : way.steps < length tree = few_steps tree id parent way there h in
     reached tree way.steps (length tree) id root (omega arith) way.there
 
--- ways up through directories that have the same above them
+-- ways up through directories that have the same parents
 pub climb_same : (old new : Tree) (On : ℕ → Type 0) → ((id : ℕ) → On id → On (up old id)) → ((id : ℕ) → On id → up new id ≡ up old id) → (steps id : ℕ) → On id → climb new steps id ≡ climb old steps id
 climb_same old new On on same zero id h = refl
 climb_same old new On on same (suc steps) id h =
     ap (λ (i : ℕ). climb new steps i) (same id h) ∙ climb_same old new On on same steps (up old id) (on id h)
 
-inside_here : (tree : Tree) (top steps id : ℕ) → id ≡ top → is_inside (suc steps) tree top id ≡ true
+pub inside_here : (tree : Tree) (top steps id : ℕ) → id ≡ top → is_inside (suc steps) tree top id ≡ true
 inside_here tree top steps id e = rw (is_same id top e) refl
 
-inside_up : (tree : Tree) (top steps id : ℕ) → id ≢ top → id ≢ 0 → is_inside (suc steps) tree top id ≡ is_inside steps tree top (up tree id)
+pub inside_up : (tree : Tree) (top steps id : ℕ) → id ≢ top → id ≢ 0 → is_inside (suc steps) tree top id ≡ is_inside steps tree top (up tree id)
 inside_up tree top steps id ne some = rw (is_other id top ne, is_other id 0 some) refl
 
 outside_few : (tree : Tree) (top steps id : ℕ) → top ≢ 0 → up tree 0 ≡ 0 → is_inside steps tree top id ≡ false → (k : ℕ) → k < steps → climb tree k id ≢ top

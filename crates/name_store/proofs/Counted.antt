@@ -18,7 +18,7 @@ use Rattle.name_store.proofs.Climbs.{apart_before, climb_on, climb_there, few_st
 use Rattle.name_store.proofs.Edits.{live, root_up, sound_parents}
 use Rattle.name_store.proofs.Printed.{count-append, counts_none, counts_one, lines_of_visits, visits_stand}
 
-both_true : (a b : Bool) → a && b ≡ true → (a ≡ true) × (b ≡ true)
+pub both_true : (a b : Bool) → a && b ≡ true → (a ≡ true) × (b ≡ true)
 both_true true b h = (refl, h)
 both_true false b h = cc
 
@@ -26,7 +26,7 @@ same_byte : (a b : ℕ) → nat_eq a b ≡ true → a ≡ b
 same_byte a b h = grind (arith, nat_tests)
 
 -- names that are told the same are one
-same_bytes : (first second : List ℕ) → pointwise nat_eq first second ≡ true → first ≡ second
+pub same_bytes : (first second : List ℕ) → pointwise nat_eq first second ≡ true → first ≡ second
 same_bytes [] [] h = refl
 same_bytes [] (b ∷ second) h = cc
 same_bytes (a ∷ first) [] h = cc

@@ -34,7 +34,7 @@ live_in (Some directory) name node h = (directory.parent, refl)
 pub live : (tree : Tree) (id : ℕ) (name : List ℕ) (node : Node) → node_at tree id name ≡ Some node → (parent : ℕ) × (parent_at tree id ≡ Some parent)
 live tree id name node h = live_in (dir_at tree id) name node h
 
--- where the root has itself above it, and each other directory an entry in the one above it, parents are there
+-- where the root is its own parent, and each other directory has an entry in its parent, parents are there
 pub parents_there : (tree : Tree) → parent_at tree 0 ≡ Some 0 → ((id parent : ℕ) → parent_at tree id ≡ Some parent → id ≢ 0 → (n : List ℕ) × (node_at tree parent n ≡ Some (Dir id))) → HasParents tree
 parents_there tree root entry id parent h =
     elim (same_id id 0) [
@@ -48,7 +48,7 @@ parents_there tree root entry id parent h =
 pub sound_parents : (tree : Tree) → IsSound tree → HasParents tree
 sound_parents tree sound = parents_there tree sound.root sound.entry
 
--- the root has itself above it
+-- the root is its own parent
 pub root_up : (tree : Tree) → parent_at tree 0 ≡ Some 0 → up tree 0 ≡ 0
 root_up tree root = up_is tree 0 0 root
 

@@ -1,3 +1,4 @@
+pub mod Outcomes
 pub mod Slots
 pub mod Formed
 pub mod Entries
@@ -12,5 +13,9 @@ pub mod Takings
 pub mod Relocations
 pub mod Soundness
 pub mod Refusals
+pub mod Shapes
+pub mod EntryLemmas
+pub mod IdLemmas
 pub mod Printed
+pub mod Pending
 pub mod Counted

@@ -5,7 +5,7 @@ use Rattle.name_store.specs.declared.operation.Node.TheVariants.{Dir, Link, File
 use Rattle.name_store.specs.NameTrees.{Tree, Listing, dir_at, entry_at, empty_in, with_entry_at, with_new_directory, with_new_link}
 use Rattle.name_store.specs.Sound.{node_in, node_at, parent_of, parent_at, IsSound}
 use Rattle.name_store.proofs.Changes.{past, same_id, entered_parents, entered_size, entered_at, entered_apart, more_at, more_none, more_others, more_size}
-use Rattle.name_store.proofs.Transitions.{grows}
+use Rattle.name_store.proofs.Transitions.{Grows, grows}
 use Rattle.name_store.proofs.Orders.{entered_names, grown_names, linked_names}
 
 module _ (tree : Tree) (id : ℕ) (name : List ℕ) (directory : Listing) (sound : IsSound tree) (there : dir_at tree id ≡ Some directory) (absent : entry_at directory name ≡ None) where
@@ -18,8 +18,8 @@ module _ (tree : Tree) (id : ℕ) (name : List ℕ) (directory : Listing) (sound
   no_next : parent_at tree (length tree) ≡ None
   no_next = ap parent_of (past tree (length tree) (omega arith))
 
-  pub filed_sound : (file : ℕ) → IsSound (with_entry_at tree id name (File file))
-  filed_sound file = grows tree (with_entry_at tree id name (File file)) id name (File file) None sound (record {
+  pub filed_grows : (file : ℕ) → Grows tree (with_entry_at tree id name (File file)) id name (File file) None
+  filed_grows file = record {
     absent = is_absent;
     there = (directory.parent, is_there);
     at = entered_at tree id directory.parent name (File file) is_there;
@@ -32,7 +32,10 @@ module _ (tree : Tree) (id : ℕ) (name : List ℕ) (directory : Listing) (sound
     dir = λ i e. cc;
     link = λ i text e. cc;
     names = entered_names tree id name (File file) sound.names;
-  })
+  }
+
+  pub filed_sound : (file : ℕ) → IsSound (with_entry_at tree id name (File file))
+  filed_sound file = grows tree (with_entry_at tree id name (File file)) id name (File file) None sound (filed_grows file)
 
   -- the tree with one entry more
   abbrev with_one : Node → Tree
@@ -44,8 +47,8 @@ module _ (tree : Tree) (id : ℕ) (name : List ℕ) (directory : Listing) (sound
   linked_size : (text : List ℕ) → length (with_new_link tree id name text) ≡ length tree + 1
   linked_size text = more_size_is (Link (length tree) text) None
 
-  pub linked_sound : (text : List ℕ) → IsSound (with_new_link tree id name text)
-  linked_sound text = grows tree (with_new_link tree id name text) id name (Link (length tree) text) None sound (record {
+  pub linked_grows : (text : List ℕ) → Grows tree (with_new_link tree id name text) id name (Link (length tree) text) None
+  linked_grows text = record {
     absent = is_absent;
     there = (directory.parent, is_there);
     at = ap (λ (d : Option Listing). node_in d name) (more_none (with_one (Link (length tree) text)) id) ∙ entered_at tree id directory.parent name (Link (length tree) text) is_there;
@@ -58,7 +61,10 @@ module _ (tree : Tree) (id : ℕ) (name : List ℕ) (directory : Listing) (sound
     dir = λ i e. cc;
     link = λ i words e. refl;
     names = linked_names (with_one (Link (length tree) text)) (entered_names tree id name (Link (length tree) text) sound.names);
-  })
+  }
+
+  pub linked_sound : (text : List ℕ) → IsSound (with_new_link tree id name text)
+  linked_sound text = grows tree (with_new_link tree id name text) id name (Link (length tree) text) None sound (linked_grows text)
 
   -- the tree before the new directory's slot
   abbrev before : Tree
@@ -82,13 +88,12 @@ module _ (tree : Tree) (id : ℕ) (name : List ℕ) (directory : Listing) (sound
   grown_size : length (with_new_directory tree id name) ≡ length tree + 1
   grown_size = more_size_is (Dir (length tree)) (Some (empty_in id))
 
-  grown_last : parent_at (with_new_directory tree id name) (length tree) ≡ Some id
-  grown_last =
-      ap (parent_at (with_new_directory tree id name)) (sym before_size)
-      ∙ ap parent_of (more_at before (Some (empty_in id)))
+  -- it is there
+  pub grown_there : dir_at (with_new_directory tree id name) (length tree) ≡ Some (empty_in id)
+  grown_there = ap (dir_at (with_new_directory tree id name)) (sym before_size) ∙ more_at before (Some (empty_in id))
 
-  pub grown_sound : IsSound (with_new_directory tree id name)
-  grown_sound = grows tree (with_new_directory tree id name) id name (Dir (length tree)) (Some id) sound (record {
+  pub grown_grows : Grows tree (with_new_directory tree id name) id name (Dir (length tree)) (Some id)
+  grown_grows = record {
     absent = is_absent;
     there = (directory.parent, is_there);
     at = grown_node id name ∙ entered_at tree id directory.parent name (Dir (length tree)) is_there;
@@ -96,9 +101,12 @@ module _ (tree : Tree) (id : ℕ) (name : List ℕ) (directory : Listing) (sound
     size = (let e = grown_size in omega arith);
     next = λ i e. (let same : length tree ≡ i = cc in sym same, grown_size);
     others = λ i ne. ap parent_of (more_others before (Some (empty_in id)) i (λ e. ne (e ∙ before_size))) ∙ entered_parents tree id name (Dir (length tree)) i;
-    last_is = grown_last;
+    last_is = ap parent_of grown_there;
     made = λ i e. (refl, (let same : id ≡ i = cc in sym same));
     dir = λ i e. refl;
     link = λ i words e. cc;
     names = grown_names before id (entered_names tree id name (Dir (length tree)) sound.names);
-  })
+  }
+
+  pub grown_sound : IsSound (with_new_directory tree id name)
+  grown_sound = grows tree (with_new_directory tree id name) id name (Dir (length tree)) (Some id) sound grown_grows

@@ -3,22 +3,22 @@ use Rattle.std.proofs.Common.{◌≡◌, ◌≢◌, ℕ, ◌<◌, zero, suc, ◌
 use Rattle.name_store.specs.declared.operation.Node.{Node}
 use Rattle.name_store.specs.declared.operation.Node.TheVariants.{Dir}
 use Rattle.name_store.specs.NameTrees.{Tree, dir_in, dir_of, up}
-use Rattle.name_store.specs.Sound.{node_at, parent_at, id_of, climb, IsSound}
-use Rattle.name_store.proofs.Changes.{Apart, Ordered, same_place}
+use Rattle.name_store.specs.Sound.{AreApart, node_at, parent_at, id_of, climb, IsSound}
+use Rattle.name_store.proofs.Changes.{Ordered, same_place}
 use Rattle.name_store.proofs.Climbs.{climb_same, reaches_root, up_is}
 use Rattle.name_store.proofs.Edits.{Edit, edited, entry, live, parents_there, root_up}
 use Rattle.name_store.proofs.Transitions.{some, same_some, none_some, is_dir}
 
 -- the entry `name` of `from` is moved to the place `to`, `other`, where `over` is. Where it is a directory, that has
--- `to` above it then, and was not met on the way up from there; where `over` is one, that is empty and no more.
+-- `to` as its parent then, and was not met on the way up from there; where `over` is one, that is empty and no more.
 pub record Moves (old new : Tree) (from : ℕ) (name : List ℕ) (to : ℕ) (other : List ℕ) (node : Node) (over : Option Node) : Type 0 where
   pub stood : node_at old from name ≡ Some node
   pub stood_over : node_at old to other ≡ over
-  pub not_same : Apart from name to other
+  pub not_same : AreApart from name to other
   pub there : (parent : ℕ) × (parent_at old to ≡ Some parent)
   pub at : node_at new to other ≡ Some node
   pub gone : node_at new from name ≡ None
-  pub apart : (id : ℕ) (n : List ℕ) → Apart from name id n → Apart to other id n → node_at new id n ≡ node_at old id n
+  pub apart : (id : ℕ) (n : List ℕ) → AreApart from name id n → AreApart to other id n → node_at new id n ≡ node_at old id n
   pub size : length new ≡ length old
   pub outside : (id : ℕ) → dir_of node ≡ Some id → (k : ℕ) → climb old k to ≢ id
   pub empty : (id : ℕ) → dir_in over ≡ Some id → (n : List ℕ) → node_at old id n ≡ None
@@ -33,7 +33,7 @@ is_dir_in (Some node) id e = ap (λ (n : Node). some n) (is_dir node id e)
 
 module _ (old new : Tree) (from : ℕ) (name : List ℕ) (to : ℕ) (other : List ℕ) (node : Node) (over : Option Node) (sound : IsSound old) (m : Moves old new from name to other node over) where
   abbrev Kept : ℕ → List ℕ → Type 0
-  Kept id n = Apart from name id n × Apart to other id n
+  Kept id n = AreApart from name id n × AreApart to other id n
 
   moved_here : (id : ℕ) → dir_of node ≡ Some id → node_at old from name ≡ Some (Dir id)
   moved_here id e = m.stood ∙ ap (λ (n : Node). some n) (is_dir node id e)
@@ -121,7 +121,7 @@ module _ (old new : Tree) (from : ℕ) (name : List ℕ) (to : ℕ) (other : Lis
   new_there : (id parent : ℕ) → parent_at new id ≡ Some parent → (next : ℕ) × (parent_at new parent ≡ Some next)
   new_there = parents_there new moved_edit.root (entry old new Kept to other (Some node) sound moved_edit)
 
-  -- a directory that is not moved has the same above it
+  -- a directory that is not moved has the same parent
   stays_parent : (id parent : ℕ) → (dir_of node ≡ Some id → ⊥) → parent_at new id ≡ Some parent → parent_at old id ≡ Some parent
   stays_parent id parent no_child h =
       elim (moved_parents id parent h) [

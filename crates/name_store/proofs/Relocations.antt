@@ -3,8 +3,8 @@ use Rattle.std.proofs.Common.{◌≡◌, ℕ, true, false, List, length, Option,
 use Rattle.name_store.specs.declared.operation.Node.{Node}
 use Rattle.name_store.specs.declared.operation.Node.TheVariants.{Dir}
 use Rattle.name_store.specs.NameTrees.{Tree, dir_at, dir_in, dir_of, with_entry_at, without_directory, is_empty, is_inside, after_move, with_parent_at, without_entry_at}
-use Rattle.name_store.specs.Sound.{node_at, parent_of, parent_at, IsSound}
-use Rattle.name_store.proofs.Changes.{Apart, entered_apart, entered_at, entered_parents, entered_size, freed_at, freed_others, freed_size, parent_set_at, parent_set_nodes, parent_set_others, parent_set_size, unlinked_at, unlinked_apart, unlinked_parents, unlinked_size}
+use Rattle.name_store.specs.Sound.{AreApart, node_at, parent_of, parent_at, IsSound}
+use Rattle.name_store.proofs.Changes.{entered_apart, entered_at, entered_parents, entered_size, freed_at, freed_others, freed_size, parent_set_at, parent_set_nodes, parent_set_others, parent_set_size, unlinked_at, unlinked_apart, unlinked_parents, unlinked_size}
 use Rattle.name_store.proofs.Climbs.{outside}
 use Rattle.name_store.proofs.Edits.{root_up}
 use Rattle.name_store.proofs.Transitions.{some, is_dir, none_some}
@@ -12,7 +12,7 @@ use Rattle.name_store.proofs.Moves.{Moves, moves, is_dir_in}
 use Rattle.name_store.proofs.Orders.{entered_names, freed_names, parent_set_names, unlinked_names}
 use Rattle.name_store.proofs.Takings.{empty_nodes, freed_nodes, unlinked_none}
 
-module _ (tree : Tree) (from : ℕ) (name : List ℕ) (to : ℕ) (other : List ℕ) (node : Node) (over : Option Node) (parent : ℕ) (sound : IsSound tree) (stood : node_at tree from name ≡ Some node) (stood_over : node_at tree to other ≡ over) (there : parent_at tree to ≡ Some parent) (not_same : Apart from name to other) (out : (id : ℕ) → dir_of node ≡ Some id → is_inside (length tree) tree id to ≡ false) (empty : (id : ℕ) → dir_in over ≡ Some id → is_empty (dir_at tree id) ≡ true) where
+module _ (tree : Tree) (from : ℕ) (name : List ℕ) (to : ℕ) (other : List ℕ) (node : Node) (over : Option Node) (parent : ℕ) (sound : IsSound tree) (stood : node_at tree from name ≡ Some node) (stood_over : node_at tree to other ≡ over) (there : parent_at tree to ≡ Some parent) (not_same : AreApart from name to other) (out : (id : ℕ) → dir_of node ≡ Some id → is_inside (length tree) tree id to ≡ false) (empty : (id : ℕ) → dir_in over ≡ Some id → is_empty (dir_at tree id) ≡ true) where
   abbrev put : Tree
   put = with_entry_at tree to other node
 
@@ -37,7 +37,7 @@ module _ (tree : Tree) (from : ℕ) (name : List ℕ) (to : ℕ) (other : List �
   -- nothing stands in the directory that is freed: it is not the one that the entry moved to
   nothing_left : (id : ℕ) (n : List ℕ) → dir_in over ≡ Some id → node_at raised id n ≡ None
   nothing_left id n e =
-      let elsewhere : Apart to other id n = λ same f. none_some (node_at tree id other) (Dir id) (nothing_over id e other) (ap (λ (i : ℕ). node_at tree i other) same ∙ over_here id e) in
+      let elsewhere : AreApart to other id n = λ same f. none_some (node_at tree id other) (Dir id) (nothing_over id e other) (ap (λ (i : ℕ). node_at tree i other) same ∙ over_here id e) in
       parent_set_nodes left (dir_of node) to id n
       ∙ unlinked_none put from name id n (entered_names tree to other node sound.names from) (entered_apart tree to other node id n elsewhere ∙ nothing_over id e n)
 
@@ -58,7 +58,7 @@ module _ (tree : Tree) (from : ℕ) (name : List ℕ) (to : ℕ) (other : List �
       ap (λ (c : Option ℕ). parent_at (with_parent_at left c to) id) e
       ∙ parent_set_at left id from to (left_parents id ∙ (sound.child from id name (child_here id e)).1)
 
-  moves_so : Moves tree new from name to other node over
+  pub moves_so : Moves tree new from name to other node over
   moves_so = record {
     stood = stood;
     stood_over = stood_over;

@@ -8,11 +8,10 @@ use Rattle.name_store.specs.declared.operation.Node.{Node}
 use Rattle.name_store.specs.declared.operation.Node.TheVariants.{Dir, Link, File, Mount}
 use Rattle.name_store.specs.declared.operation.NameOp.{NameOp}
 use Rattle.name_store.specs.declared.operation.NameOp.TheVariants.{Look, Parent, Makedir, Addlink, Addfile, Remfile, Remdir, Move, List as ListOp}
-use Rattle.name_store.specs.declared.operation.NameAnswer.TheVariants.{Same}
-use Rattle.name_store.specs.NameTrees.{Tree, Listing, NamesOutcome, byte_order, dir_at, dir_in, dir_of, empty_in, entry_at, addfile_outcome_at, addfile_outcome, is_empty, is_inside, is_same_entry, addlink_outcome_at, addlink_outcome, makedir_outcome_at, makedir_outcome, mount_fault, move_fault, move_outcome, move_outcome_at, nstep, opening, over_fault, remdir_outcome_at, remdir_outcome, remdir_child_outcome, remfile_outcome_at, remfile_outcome, outcome_of, unless_refused, with_entry, with_mount}
-use Rattle.name_store.specs.Sound.{node_in, node_at, parent_of, parent_at, id_of, climb, IsSound}
+use Rattle.name_store.specs.NameTrees.{Tree, Listing, NamesOutcome, byte_order, dir_at, dir_in, dir_of, empty_in, entry_at, addfile_outcome_at, is_empty, is_inside, is_same_entry, addlink_outcome_at, makedir_outcome_at, mount_fault, move_fault, move_outcome_at, nstep, opening, over_fault, remdir_outcome_at, remdir_child_outcome, remfile_outcome_at, with_entry, with_mount}
+use Rattle.name_store.specs.Sound.{AreApart, node_in, node_at, parent_of, parent_at, id_of, climb, IsSound}
 use Rattle.name_store.proofs.Entries.{entered_here, entered_other, entered_sorted, same_name, apart_names}
-use Rattle.name_store.proofs.Changes.{Apart}
+use Rattle.name_store.proofs.Outcomes.{in_allowed, in_apart, in_there}
 use Rattle.name_store.proofs.Transitions.{some}
 use Rattle.name_store.proofs.Orders.{Sorted}
 use Rattle.name_store.proofs.Makings.{filed_sound, grown_sound, linked_sound}
@@ -96,28 +95,16 @@ module _ (tree : Tree) (sound : IsSound tree) where
   made_at id name directory (Some node) there h = sound
   made_at id name directory None there h = grown_sound tree id name directory sound there h
 
-  made : (id : ℕ) (name : List ℕ) (directory : Option Listing) → dir_at tree id ≡ directory → Stays (makedir_outcome tree id name directory)
-  made id name None there = sound
-  made id name (Some directory) there = made_at id name directory (entry_at directory name) there refl
-
   linked_at : (id : ℕ) (name text : List ℕ) (directory : Listing) (node : Option Node) → dir_at tree id ≡ Some directory → entry_at directory name ≡ node → Stays (addlink_outcome_at tree id name text node)
   linked_at id name text directory (Some node) there h = sound
   linked_at id name text directory None there h = linked_sound tree id name directory sound there h text
-
-  links : (id : ℕ) (name text : List ℕ) (directory : Option Listing) → dir_at tree id ≡ directory → Stays (addlink_outcome tree id name text directory)
-  links id name text None there = sound
-  links id name text (Some directory) there = linked_at id name text directory (entry_at directory name) there refl
 
   filed_at : (id : ℕ) (name : List ℕ) (file : ℕ) (directory : Listing) (node : Option Node) → dir_at tree id ≡ Some directory → entry_at directory name ≡ node → Stays (addfile_outcome_at tree id name file node)
   filed_at id name file directory (Some node) there h = sound
   filed_at id name file directory None there h = filed_sound tree id name directory sound there h file
 
-  files : (id : ℕ) (name : List ℕ) (file : ℕ) (directory : Option Listing) → dir_at tree id ≡ directory → Stays (addfile_outcome tree id name file directory)
-  files id name file None there = sound
-  files id name file (Some directory) there = filed_at id name file directory (entry_at directory name) there refl
-
   -- what stands in a directory that is there
-  stood : (id : ℕ) (name : List ℕ) (directory : Listing) (node : Node) → dir_at tree id ≡ Some directory → entry_at directory name ≡ Some node → node_at tree id name ≡ Some node
+  pub stood : (id : ℕ) (name : List ℕ) (directory : Listing) (node : Node) → dir_at tree id ≡ Some directory → entry_at directory name ≡ Some node → node_at tree id name ≡ Some node
   stood id name directory node there h = ap (λ (d : Option Listing). node_in d name) there ∙ h
 
   unfiled_at : (id : ℕ) (name : List ℕ) (slash : Bool) (directory : Listing) (node : Option Node) → dir_at tree id ≡ Some directory → entry_at directory name ≡ node → Stays (remfile_outcome_at tree id name slash node)
@@ -128,10 +115,6 @@ module _ (tree : Tree) (sound : IsSound tree) where
   unfiled_at id name true directory (Some (Link link text)) there h = sound
   unfiled_at id name false directory (Some (File file)) there h = unlinked_sound tree id name (File file) sound (stood id name directory (File file) there h) refl
   unfiled_at id name false directory (Some (Link link text)) there h = unlinked_sound tree id name (Link link text) sound (stood id name directory (Link link text) there h) refl
-
-  unfiled : (id : ℕ) (name : List ℕ) (slash : Bool) (directory : Option Listing) → dir_at tree id ≡ directory → Stays (remfile_outcome tree id name slash directory)
-  unfiled id name slash None there = sound
-  unfiled id name slash (Some directory) there = unfiled_at id name slash directory (entry_at directory name) there refl
 
   emptied : (id : ℕ) (name : List ℕ) (child : ℕ) (empty : Bool) → node_at tree id name ≡ Some (Dir child) → is_empty (dir_at tree child) ≡ empty → Stays (remdir_child_outcome tree id name child empty)
   emptied id name child false h e = sound
@@ -144,18 +127,6 @@ module _ (tree : Tree) (sound : IsSound tree) where
   removed_at id name directory (Some (Link link text)) there h = sound
   removed_at id name directory (Some (Dir child)) there h = emptied id name child (is_empty (dir_at tree child)) (stood id name directory (Dir child) there h) refl
 
-  removed : (id : ℕ) (name : List ℕ) (directory : Option Listing) → dir_at tree id ≡ directory → Stays (remdir_outcome tree id name directory)
-  removed id name None there = sound
-  removed id name (Some directory) there = removed_at id name directory (entry_at directory name) there refl
-
-  unless_stays : (fault : Option Errno) (outcome : NamesOutcome) → (fault ≡ None → Stays outcome) → Stays (unless_refused fault tree outcome)
-  unless_stays None outcome h = h refl
-  unless_stays (Some error) outcome h = sound
-
-  same_stays : (same : Bool) (outcome : NamesOutcome) → (same ≡ false → Stays outcome) → Stays (if same then outcome_of tree Same else outcome)
-  same_stays true outcome h = sound
-  same_stays false outcome h = h refl
-
   chosen : (fault : Errno) (b : Bool) → (if b then Some fault else None) ≡ None → b ≡ false
   chosen fault true h = cc
   chosen fault false h = refl
@@ -165,7 +136,7 @@ module _ (tree : Tree) (sound : IsSound tree) where
   chosen_not fault false h = cc
 
   -- a directory that may be moved is not moved into itself
-  not_inside : (node : Node) (to : ℕ) (slash : Bool) (id : ℕ) → move_fault tree node to slash ≡ None → dir_of node ≡ Some id → is_inside (length tree) tree id to ≡ false
+  pub not_inside : (node : Node) (to : ℕ) (slash : Bool) (id : ℕ) → move_fault tree node to slash ≡ None → dir_of node ≡ Some id → is_inside (length tree) tree id to ≡ false
   not_inside (Dir child) to slash id h e =
       let same : child ≡ id = cc in
       ap (λ (i : ℕ). is_inside (length tree) tree i to) (sym same) ∙ chosen _ (is_inside (length tree) tree child to) h
@@ -174,7 +145,7 @@ module _ (tree : Tree) (sound : IsSound tree) where
   not_inside (Mount backend) to slash id h e = cc
 
   -- a directory that may be replaced is empty
-  replaced_empty : (node : Node) (over : Option Node) (id : ℕ) → over_fault tree node over ≡ None → dir_in over ≡ Some id → is_empty (dir_at tree id) ≡ true
+  pub replaced_empty : (node : Node) (over : Option Node) (id : ℕ) → over_fault tree node over ≡ None → dir_in over ≡ Some id → is_empty (dir_at tree id) ≡ true
   replaced_empty node None id h e = cc
   replaced_empty (Dir child) (Some (Dir other)) id h e =
       let same : other ≡ id = cc in
@@ -194,33 +165,30 @@ module _ (tree : Tree) (sound : IsSound tree) where
       ∙ ap (λ (b : Bool). b && pointwise nat_eq name name) (let one : (from == from) ≡ true = grind (arith, nat_tests) in one)
       ∙ nat_list_eq_equiv.refl name
 
-  apart_entries : (from : ℕ) (name : List ℕ) (to : ℕ) (other : List ℕ) → is_same_entry from name to other ≡ false → Apart from name to other
+  pub apart_entries : (from : ℕ) (name : List ℕ) (to : ℕ) (other : List ℕ) → is_same_entry from name to other ≡ false → AreApart from name to other
   apart_entries from name to other h e f = (let clash : true ≡ false = sym (both_same from name to other e f) ∙ h in cc)
 
   moved_at : (from : ℕ) (name : List ℕ) (to : ℕ) (other : List ℕ) (slash : Bool) (source target : Listing) (node over : Option Node) → dir_at tree from ≡ Some source → dir_at tree to ≡ Some target → entry_at source name ≡ node → entry_at target other ≡ over → Stays (move_outcome_at tree from name to other slash node over)
   moved_at from name to other slash source target None over here there h k = sound
   moved_at from name to other slash source target (Some node) over here there h k =
-      unless_stays (move_fault tree node to slash) _ (λ may_move.
-      unless_stays (mount_fault over) _ (λ no_mount.
-      same_stays (is_same_entry from name to other) _ (λ differ.
-      unless_stays (over_fault tree node over) _ (λ may_replace.
+      in_allowed Stays tree (move_fault tree node to slash) _ (λ error is. sound) (λ may_move.
+      in_allowed Stays tree (mount_fault over) _ (λ error is. sound) (λ no_mount.
+      in_apart Stays tree (is_same_entry from name to other) _ (λ one. sound) (λ differ.
+      in_allowed Stays tree (over_fault tree node over) _ (λ error is. sound) (λ may_replace.
       moved_sound tree from name to other node over target.parent sound (stood from name source node here h)
       (ap (λ (d : Option Listing). node_in d other) there ∙ k) (ap parent_of there) (apart_entries from name to other differ)
       (λ id e. not_inside node to slash id may_move e) (λ id e. replaced_empty node over id may_replace e)))))
 
-  moves : (from : ℕ) (name : List ℕ) (to : ℕ) (other : List ℕ) (slash : Bool) (source target : Option Listing) → dir_at tree from ≡ source → dir_at tree to ≡ target → Stays (move_outcome tree from name to other slash source target)
-  moves from name to other slash None target here there = sound
-  moves from name to other slash (Some source) None here there = sound
-  moves from name to other slash (Some source) (Some target) here there =
-      moved_at from name to other slash source target (entry_at source name) (entry_at target other) here there refl refl
-
 pub step_sound : (tree : Tree) (op : NameOp) → IsSound tree → IsSound (nstep tree op).tree
-step_sound tree (Look id name) sound = sound
-step_sound tree (Parent id) sound = sound
-step_sound tree (Makedir id name) sound = made tree sound id name (dir_at tree id) refl
-step_sound tree (Addlink id name text) sound = links tree sound id name text (dir_at tree id) refl
-step_sound tree (Addfile id name file) sound = files tree sound id name file (dir_at tree id) refl
-step_sound tree (Remfile id name slash) sound = unfiled tree sound id name slash (dir_at tree id) refl
-step_sound tree (Remdir id name) sound = removed tree sound id name (dir_at tree id) refl
-step_sound tree (Move from name to other slash) sound = moves tree sound from name to other slash (dir_at tree from) (dir_at tree to) refl refl
-step_sound tree (ListOp id start) sound = sound
+step_sound tree (Look id name) sound = in_there Stays tree (dir_at tree id) _ sound (λ there is. sound)
+step_sound tree (Parent id) sound = in_there Stays tree (dir_at tree id) _ sound (λ there is. sound)
+step_sound tree (Makedir id name) sound = in_there Stays tree (dir_at tree id) _ sound (λ there is. made_at tree sound id name there (entry_at there name) is refl)
+step_sound tree (Addlink id name text) sound = in_there Stays tree (dir_at tree id) _ sound (λ there is. linked_at tree sound id name text there (entry_at there name) is refl)
+step_sound tree (Addfile id name file) sound = in_there Stays tree (dir_at tree id) _ sound (λ there is. filed_at tree sound id name file there (entry_at there name) is refl)
+step_sound tree (Remfile id name slash) sound = in_there Stays tree (dir_at tree id) _ sound (λ there is. unfiled_at tree sound id name slash there (entry_at there name) is refl)
+step_sound tree (Remdir id name) sound = in_there Stays tree (dir_at tree id) _ sound (λ there is. removed_at tree sound id name there (entry_at there name) is refl)
+step_sound tree (Move from name to new_name slash) sound =
+    in_there Stays tree (dir_at tree from) _ sound (λ source here.
+    in_there Stays tree (dir_at tree to) _ sound (λ target there.
+    moved_at tree sound from name to new_name slash source target (entry_at source name) (entry_at target new_name) here there refl refl))
+step_sound tree (ListOp id start) sound = in_there Stays tree (dir_at tree id) _ sound (λ there is. sound)

@@ -7,7 +7,7 @@ use Rattle.name_store.specs.NameTrees.{Tree, Listing, dir_at, dir_of, without_di
 use Rattle.name_store.specs.Sound.{node_in, node_at, parent_of, IsSound}
 use Rattle.name_store.proofs.Entries.{Entries, at}
 use Rattle.name_store.proofs.Changes.{Ordered, same_id, same_place, freed_at, freed_others, freed_size, unlinked_at, unlinked_apart, unlinked_parents, unlinked_size}
-use Rattle.name_store.proofs.Transitions.{takes, some}
+use Rattle.name_store.proofs.Transitions.{Takes, takes, some}
 use Rattle.name_store.proofs.Orders.{freed_names, unlinked_names}
 
 -- nothing stands where there are no entries
@@ -47,8 +47,8 @@ unlinked_none tree id name first other sorted h =
       | inr a ↦ unlinked_apart tree id name first other a ∙ h
     ]
 
-pub unlinked_sound : (tree : Tree) (id : ℕ) (name : List ℕ) (node : Node) → IsSound tree → node_at tree id name ≡ Some node → dir_of node ≡ None → IsSound (without_entry_at tree id name)
-unlinked_sound tree id name node sound stood no_dir = takes tree (without_entry_at tree id name) id name node sound (record {
+pub unlinked_takes : (tree : Tree) (id : ℕ) (name : List ℕ) (node : Node) → IsSound tree → node_at tree id name ≡ Some node → dir_of node ≡ None → Takes tree (without_entry_at tree id name) id name node
+unlinked_takes tree id name node sound stood no_dir = record {
   stood = stood;
   gone = unlinked_at tree id name (sound.names id);
   apart = λ first other a. unlinked_apart tree id name first other a;
@@ -57,7 +57,10 @@ unlinked_sound tree id name node sound stood no_dir = takes tree (without_entry_
   freed = λ i e. cc;
   others = λ i ne. unlinked_parents tree id name i;
   names = unlinked_names tree id name sound.names;
-})
+}
+
+pub unlinked_sound : (tree : Tree) (id : ℕ) (name : List ℕ) (node : Node) → IsSound tree → node_at tree id name ≡ Some node → dir_of node ≡ None → IsSound (without_entry_at tree id name)
+unlinked_sound tree id name node sound stood no_dir = takes tree (without_entry_at tree id name) id name node sound (unlinked_takes tree id name node sound stood no_dir)
 
 module _ (tree : Tree) (id : ℕ) (name : List ℕ) (child : ℕ) (sound : IsSound tree) (stood : node_at tree id name ≡ Some (Dir child)) (empty : is_empty (dir_at tree child) ≡ true) where
   abbrev left : Tree
@@ -75,8 +78,8 @@ module _ (tree : Tree) (id : ℕ) (name : List ℕ) (child : ℕ) (sound : IsSou
   same_nodes : (first : ℕ) (other : List ℕ) → node_at new first other ≡ node_at left first other
   same_nodes first other = freed_nodes left (Some child) first other (nothing first other)
 
-  pub removed_sound : IsSound new
-  removed_sound = takes tree new id name (Dir child) sound (record {
+  pub removed_takes : Takes tree new id name (Dir child)
+  removed_takes = record {
     stood = stood;
     gone = same_nodes id name ∙ unlinked_at tree id name (sound.names id);
     apart = λ first other a. same_nodes first other ∙ unlinked_apart tree id name first other a;
@@ -85,4 +88,7 @@ module _ (tree : Tree) (id : ℕ) (name : List ℕ) (child : ℕ) (sound : IsSou
     freed = λ i e. (let same : child ≡ i = cc in ap parent_of (freed_at left child i (sym same)));
     others = λ i ne. ap parent_of (freed_others left (Some child) i ne) ∙ unlinked_parents tree id name i;
     names = freed_names left (Some child) (unlinked_names tree id name sound.names);
-  })
+  }
+
+  pub removed_sound : IsSound new
+  removed_sound = takes tree new id name (Dir child) sound removed_takes

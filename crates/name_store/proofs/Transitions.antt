@@ -3,8 +3,8 @@ use Rattle.std.proofs.Common.{◌≡◌, ◌≢◌, ℕ, ◌<◌, ◌≤◌, ◌
 use Rattle.name_store.specs.declared.operation.Node.{Node}
 use Rattle.name_store.specs.declared.operation.Node.TheVariants.{Dir, Link, File, Mount}
 use Rattle.name_store.specs.NameTrees.{Tree, dir_of, up}
-use Rattle.name_store.specs.Sound.{node_at, parent_of, parent_at, id_of, climb, IsSound}
-use Rattle.name_store.proofs.Changes.{Apart, Ordered, past, same_id, same_place}
+use Rattle.name_store.specs.Sound.{AreApart, node_at, parent_at, id_of, climb, IsSound}
+use Rattle.name_store.proofs.Changes.{Ordered, same_id, same_place}
 use Rattle.name_store.proofs.Climbs.{climb_same, parent_within, reached, up_is}
 use Rattle.name_store.proofs.Edits.{Edit, edited, entry, parents_there, root_up, sound_parents}
 
@@ -17,7 +17,7 @@ same_some None id = inr (λ e. cc)
 same_some (Some other) id = elim (same_id other id) [ inl e ↦ inl (ap (λ (i : ℕ). some i) e) | inr ne ↦ inr (λ e. ne (cc)) ]
 
 -- each id that stands was given
-id_given : (tree : Tree) (sound : IsSound tree) (place : ℕ) (name : List ℕ) (node : Node) (id : ℕ) → node_at tree place name ≡ Some node → id_of node ≡ Some id → id < length tree
+pub id_given : (tree : Tree) (sound : IsSound tree) (place : ℕ) (name : List ℕ) (node : Node) (id : ℕ) → node_at tree place name ≡ Some node → id_of node ≡ Some id → id < length tree
 id_given tree sound place name (Dir child) id h e =
     let (not_root, is) = sound.child place child name h in
     let same : child ≡ id = cc in
@@ -33,12 +33,12 @@ id_given tree sound place name (Mount backend) id h e = cc
 pub none_some : {X : Type 0} (o : Option X) (x : X) → o ≡ None → o ≡ Some x → ⊥
 none_some o x e f = cc
 
--- a node under a name that was absent; `last` is what the next id has above it then, where it is a directory
+-- a node under a name that was absent; `last` is the next id's parent then, where that is a directory
 pub record Grows (old new : Tree) (place : ℕ) (name : List ℕ) (node : Node) (last : Option ℕ) : Type 0 where
   pub absent : node_at old place name ≡ None
   pub there : (parent : ℕ) × (parent_at old place ≡ Some parent)
   pub at : node_at new place name ≡ Some node
-  pub apart : (first : ℕ) (other : List ℕ) → Apart place name first other → node_at new first other ≡ node_at old first other
+  pub apart : (first : ℕ) (other : List ℕ) → AreApart place name first other → node_at new first other ≡ node_at old first other
   pub size : length old ≤ length new
   pub next : (id : ℕ) → id_of node ≡ Some id → (id ≡ length old) × (length new ≡ length old + 1)
   pub others : (id : ℕ) → id ≢ length old → parent_at new id ≡ parent_at old id
@@ -50,7 +50,7 @@ pub record Grows (old new : Tree) (place : ℕ) (name : List ℕ) (node : Node) 
 
 module _ (old new : Tree) (place : ℕ) (name : List ℕ) (node : Node) (last : Option ℕ) (sound : IsSound old) (g : Grows old new place name node last) where
   abbrev Kept : ℕ → List ℕ → Type 0
-  Kept first other = Apart place name first other
+  Kept first other = AreApart place name first other
 
   absent_apart : (first : ℕ) (other : List ℕ) (there : Node) → node_at old first other ≡ Some there → Kept first other
   absent_apart first other there h e f =
@@ -140,7 +140,7 @@ module _ (old new : Tree) (place : ℕ) (name : List ℕ) (node : Node) (last : 
 pub record Takes (old new : Tree) (place : ℕ) (name : List ℕ) (node : Node) : Type 0 where
   pub stood : node_at old place name ≡ Some node
   pub gone : node_at new place name ≡ None
-  pub apart : (first : ℕ) (other : List ℕ) → Apart place name first other → node_at new first other ≡ node_at old first other
+  pub apart : (first : ℕ) (other : List ℕ) → AreApart place name first other → node_at new first other ≡ node_at old first other
   pub size : length new ≡ length old
   pub empty : (id : ℕ) → dir_of node ≡ Some id → (other : List ℕ) → node_at old id other ≡ None
   pub freed : (id : ℕ) → dir_of node ≡ Some id → parent_at new id ≡ None
@@ -156,7 +156,7 @@ is_dir (Mount backend) id e = cc
 
 module _ (old new : Tree) (place : ℕ) (name : List ℕ) (node : Node) (sound : IsSound old) (t : Takes old new place name node) where
   abbrev Left : ℕ → List ℕ → Type 0
-  Left first other = Apart place name first other
+  Left first other = AreApart place name first other
 
   left_stands : (id : ℕ) (other : List ℕ) (there : Node) → node_at new id other ≡ Some there → ((node_at old id other ≡ Some there) × Left id other) ⊎ ((id ≡ place) × (other ≡ name) × (None ≡ Some there))
   left_stands id other there h =

@@ -8,7 +8,7 @@ use Rattle.name_store.specs.declared.operation.Node.TheVariants.{Dir, Link}
 use Rattle.name_store.specs.declared.operation.NameOp.{NameOp}
 use Rattle.name_store.specs.declared.operation.NameOp.TheVariants.{Look, Parent, Makedir, Addlink, Addfile, Remfile, Remdir, Move, List as ListOp}
 use Rattle.name_store.specs.declared.operation.NameAnswer.{NameAnswer}
-use Rattle.name_store.specs.declared.operation.NameAnswer.TheVariants.{Gone, Absent, Found, Made, Taken, Done, RemovedFile, RemovedLink, Same, Over, Moved, Names, Fault}
+use Rattle.name_store.specs.declared.operation.NameAnswer.TheVariants.{Gone, Absent, Found, MadeDir, MadeLink, Taken, Done, RemovedFile, RemovedLink, Same, Over, Moved, Names, Fault}
 
 -- the errors that an operation answers
 abbrev pub RemfileFault : Errno → Type 0
@@ -42,9 +42,9 @@ IsForm op Gone = Unit {0}
 IsForm (Look id name) Absent = Unit {0}
 IsForm (Look id name) (Found node) = Unit {0}
 IsForm (Parent id) (Found node) = IsDir node
-IsForm (Makedir id name) (Made other) = Unit {0}
+IsForm (Makedir id name) (MadeDir made) = Unit {0}
 IsForm (Makedir id name) (Fault error) = error ≡ Eexist
-IsForm (Addlink id name text) (Made other) = Unit {0}
+IsForm (Addlink id name text) (MadeLink made) = Unit {0}
 IsForm (Addlink id name text) (Fault error) = error ≡ Eexist
 IsForm (Addfile id name file) (Taken node) = Unit {0}
 IsForm (Addfile id name file) Done = Unit {0}
@@ -53,10 +53,10 @@ IsForm (Remfile id name slash) RemovedLink = Unit {0}
 IsForm (Remfile id name slash) (Fault error) = RemfileFault error
 IsForm (Remdir id name) Done = Unit {0}
 IsForm (Remdir id name) (Fault error) = RemdirFault error
-IsForm (Move from name to other slash) Same = Unit {0}
-IsForm (Move from name to other slash) (Over file) = Unit {0}
-IsForm (Move from name to other slash) Moved = Unit {0}
-IsForm (Move from name to other slash) (Fault error) = MoveFault error
+IsForm (Move from name to new_name slash) Same = Unit {0}
+IsForm (Move from name to new_name slash) (Over file) = Unit {0}
+IsForm (Move from name to new_name slash) Moved = Unit {0}
+IsForm (Move from name to new_name slash) (Fault error) = MoveFault error
 IsForm (ListOp id start) (Names names) = length names ≤ list_max
 IsForm op answer = ⊥
 

@@ -2,7 +2,7 @@
 use Rattle.std.specs.Prelude.{◌≡◌, ℕ, List}
 use Rattle.name_store.specs.declared.operation.NameOp.{NameOp}
 use Rattle.name_store.specs.declared.operation.NameAnswer.{NameAnswer}
-use Rattle.name_store.specs.declared.operation.NameAnswer.TheVariants.{Gone, Absent, Found, Made, Taken, Done, RemovedFile, RemovedLink, Same, Over, Moved, Names, Fault}
+use Rattle.name_store.specs.declared.operation.NameAnswer.TheVariants.{Gone, Absent, Found, MadeDir, MadeLink, Taken, Done, RemovedFile, RemovedLink, Same, Over, Moved, Names, Fault}
 use Rattle.name_store.specs.NameTrees.{Tree, nstep, opening}
 use Rattle.name_store.specs.Sound.{IsSound}
 use Rattle.name_store.specs.Visits.{LinesAreEntries}
@@ -23,7 +23,8 @@ LeavesTree (Taken node) = Unit {0}
 LeavesTree Same = Unit {0}
 LeavesTree (Names names) = Unit {0}
 LeavesTree (Fault error) = Unit {0}
-LeavesTree (Made id) = ⊥
+LeavesTree (MadeDir id) = ⊥
+LeavesTree (MadeLink id) = ⊥
 LeavesTree Done = ⊥
 LeavesTree (RemovedFile file) = ⊥
 LeavesTree RemovedLink = ⊥

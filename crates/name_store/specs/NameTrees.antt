@@ -16,7 +16,7 @@ use Rattle.name_store.specs.declared.operation.Node.TheVariants.{Dir, Link, File
 use Rattle.name_store.specs.declared.operation.NameOp.{NameOp}
 use Rattle.name_store.specs.declared.operation.NameOp.TheVariants.{Look, Parent, Makedir, Addlink, Addfile, Remfile, Remdir, Move, List as ListOp}
 use Rattle.name_store.specs.declared.operation.NameAnswer.{NameAnswer}
-use Rattle.name_store.specs.declared.operation.NameAnswer.TheVariants.{Gone, Absent, Found, Made, Taken, Done, RemovedFile, RemovedLink, Same, Over, Moved, Names, Fault}
+use Rattle.name_store.specs.declared.operation.NameAnswer.TheVariants.{Gone, Absent, Found, MadeDir, MadeLink, Taken, Done, RemovedFile, RemovedLink, Same, Over, Moved, Names, Fault}
 
 -- a directory: its parent's id, and its entries in the order of their names' bytes
 pub record Listing : Type 0 where
@@ -110,11 +110,11 @@ abbrev pub dir_in : Option Node → Option ℕ
 dir_in None = None
 dir_in (Some node) = dir_of node
 
--- the entry `name` of directory `from`, which is that node, moved to `to` under the name `other`, in the place
--- of `over`. A moved directory has `to` above it, and a directory that is replaced is no more.
+-- the entry `name` of directory `from`, which is that node, moved to `to` under a new name, in the place of `over`.
+-- A moved directory has `to` as its parent, and a directory that is replaced is no more.
 abbrev pub after_move : Tree → ℕ → List ℕ → ℕ → List ℕ → Node → Option Node → Tree
-after_move tree from name to other node over =
-    without_directory (with_parent_at (without_entry_at (with_entry_at tree to other node) from name) (dir_of node) to) (dir_in over)
+after_move tree from name to new_name node over =
+    without_directory (with_parent_at (without_entry_at (with_entry_at tree to new_name node) from name) (dir_of node) to) (dir_in over)
 
 -- What an operation answers, and the tree that it leaves.
 
@@ -125,46 +125,46 @@ pub record NamesOutcome : Type 0 where
 abbrev pub outcome_of : Tree → NameAnswer → NamesOutcome
 outcome_of tree answer = record { tree = tree; answer = answer }
 
+-- what an operation on a directory comes to, where that is there; else the answer is `Gone`, before any other
+abbrev pub unless_gone : Tree → Option Listing → (Listing → NamesOutcome) → NamesOutcome
+unless_gone tree None outcome = outcome_of tree Gone
+unless_gone tree (Some directory) outcome = outcome directory
+
 -- `look`
 abbrev pub look_answer_at : Option Node → NameAnswer
 look_answer_at None = Absent
 look_answer_at (Some node) = Found node
 
-abbrev pub look_answer : Option Listing → List ℕ → NameAnswer
-look_answer None name = Gone
-look_answer (Some directory) name = look_answer_at (entry_at directory name)
+abbrev pub look_answer : Listing → List ℕ → NameAnswer
+look_answer directory name = look_answer_at (entry_at directory name)
 
 -- `parent`
-abbrev pub parent_answer : Option Listing → NameAnswer
-parent_answer None = Gone
-parent_answer (Some directory) = Found (Dir directory.parent)
+abbrev pub parent_answer : Listing → NameAnswer
+parent_answer directory = Found (Dir directory.parent)
 
 -- `makedir`: EEXIST where the name is there
 abbrev pub makedir_outcome_at : Tree → ℕ → List ℕ → Option Node → NamesOutcome
 makedir_outcome_at tree id name (Some node) = outcome_of tree (Fault Eexist)
-makedir_outcome_at tree id name None = outcome_of (with_new_directory tree id name) (Made (length tree))
+makedir_outcome_at tree id name None = outcome_of (with_new_directory tree id name) (MadeDir (length tree))
 
-abbrev pub makedir_outcome : Tree → ℕ → List ℕ → Option Listing → NamesOutcome
-makedir_outcome tree id name None = outcome_of tree Gone
-makedir_outcome tree id name (Some directory) = makedir_outcome_at tree id name (entry_at directory name)
+abbrev pub makedir_outcome : Tree → ℕ → List ℕ → Listing → NamesOutcome
+makedir_outcome tree id name directory = makedir_outcome_at tree id name (entry_at directory name)
 
 -- `addlink`: EEXIST where the name is there
 abbrev pub addlink_outcome_at : Tree → ℕ → List ℕ → List ℕ → Option Node → NamesOutcome
 addlink_outcome_at tree id name text (Some node) = outcome_of tree (Fault Eexist)
-addlink_outcome_at tree id name text None = outcome_of (with_new_link tree id name text) (Made (length tree))
+addlink_outcome_at tree id name text None = outcome_of (with_new_link tree id name text) (MadeLink (length tree))
 
-abbrev pub addlink_outcome : Tree → ℕ → List ℕ → List ℕ → Option Listing → NamesOutcome
-addlink_outcome tree id name text None = outcome_of tree Gone
-addlink_outcome tree id name text (Some directory) = addlink_outcome_at tree id name text (entry_at directory name)
+abbrev pub addlink_outcome : Tree → ℕ → List ℕ → List ℕ → Listing → NamesOutcome
+addlink_outcome tree id name text directory = addlink_outcome_at tree id name text (entry_at directory name)
 
 -- `addfile`: what is there where the name is taken
 abbrev pub addfile_outcome_at : Tree → ℕ → List ℕ → ℕ → Option Node → NamesOutcome
 addfile_outcome_at tree id name file (Some node) = outcome_of tree (Taken node)
 addfile_outcome_at tree id name file None = outcome_of (with_entry_at tree id name (File file)) Done
 
-abbrev pub addfile_outcome : Tree → ℕ → List ℕ → ℕ → Option Listing → NamesOutcome
-addfile_outcome tree id name file None = outcome_of tree Gone
-addfile_outcome tree id name file (Some directory) = addfile_outcome_at tree id name file (entry_at directory name)
+abbrev pub addfile_outcome : Tree → ℕ → List ℕ → ℕ → Listing → NamesOutcome
+addfile_outcome tree id name file directory = addfile_outcome_at tree id name file (entry_at directory name)
 
 -- `remfile`: ENOENT, EISDIR for a directory or a mount, ENOTDIR where a slash follows the name
 abbrev pub remfile_outcome_at : Tree → ℕ → List ℕ → Bool → Option Node → NamesOutcome
@@ -176,9 +176,8 @@ remfile_outcome_at tree id name true (Some (Link link text)) = outcome_of tree (
 remfile_outcome_at tree id name false (Some (File file)) = outcome_of (without_entry_at tree id name) (RemovedFile file)
 remfile_outcome_at tree id name false (Some (Link link text)) = outcome_of (without_entry_at tree id name) RemovedLink
 
-abbrev pub remfile_outcome : Tree → ℕ → List ℕ → Bool → Option Listing → NamesOutcome
-remfile_outcome tree id name slash None = outcome_of tree Gone
-remfile_outcome tree id name slash (Some directory) = remfile_outcome_at tree id name slash (entry_at directory name)
+abbrev pub remfile_outcome : Tree → ℕ → List ℕ → Bool → Listing → NamesOutcome
+remfile_outcome tree id name slash directory = remfile_outcome_at tree id name slash (entry_at directory name)
 
 -- there is no entry in a directory, or there is no directory
 abbrev pub is_empty : Option Listing → Bool
@@ -197,19 +196,18 @@ remdir_outcome_at tree id name (Some (File file)) = outcome_of tree (Fault Enotd
 remdir_outcome_at tree id name (Some (Link link text)) = outcome_of tree (Fault Enotdir)
 remdir_outcome_at tree id name (Some (Dir child)) = remdir_child_outcome tree id name child (is_empty (dir_at tree child))
 
-abbrev pub remdir_outcome : Tree → ℕ → List ℕ → Option Listing → NamesOutcome
-remdir_outcome tree id name None = outcome_of tree Gone
-remdir_outcome tree id name (Some directory) = remdir_outcome_at tree id name (entry_at directory name)
+abbrev pub remdir_outcome : Tree → ℕ → List ℕ → Listing → NamesOutcome
+remdir_outcome tree id name directory = remdir_outcome_at tree id name (entry_at directory name)
 
 -- `move`
 
--- the directory above another, which of the root and of an id without a directory is the root
-abbrev pub above : Option Listing → ℕ
-above None = 0
-above (Some directory) = directory.parent
+-- a directory's parent, and the root where there is no directory
+abbrev pub parent_or_root : Option Listing → ℕ
+parent_or_root None = 0
+parent_or_root (Some directory) = directory.parent
 
 abbrev pub up : Tree → ℕ → ℕ
-up tree id = above (dir_at tree id)
+up tree id = parent_or_root (dir_at tree id)
 
 -- whether `top` is met on the way from `id` up to the root, in at most so many steps
 abbrev pub is_inside : ℕ → Tree → ℕ → ℕ → Bool
@@ -243,7 +241,7 @@ move_answer over = Moved
 
 -- the same entry of the same directory
 abbrev pub is_same_entry : ℕ → List ℕ → ℕ → List ℕ → Bool
-is_same_entry from name to other = from == to && pointwise nat_eq name other
+is_same_entry from name to new_name = from == to && pointwise nat_eq name new_name
 
 -- the first refusal, or else the outcome
 abbrev pub unless_refused : Option Errno → Tree → NamesOutcome → NamesOutcome
@@ -251,38 +249,35 @@ unless_refused (Some error) tree outcome = outcome_of tree (Fault error)
 unless_refused None tree outcome = outcome
 
 abbrev pub move_outcome_over : Tree → ℕ → List ℕ → ℕ → List ℕ → Node → Option Node → NamesOutcome
-move_outcome_over tree from name to other node over =
-    if is_same_entry from name to other then outcome_of tree Same
-    else unless_refused (over_fault tree node over) tree (outcome_of (after_move tree from name to other node over) (move_answer over))
+move_outcome_over tree from name to new_name node over =
+    if is_same_entry from name to new_name then outcome_of tree Same
+    else unless_refused (over_fault tree node over) tree (outcome_of (after_move tree from name to new_name node over) (move_answer over))
 
 abbrev pub move_outcome_at : Tree → ℕ → List ℕ → ℕ → List ℕ → Bool → Option Node → Option Node → NamesOutcome
-move_outcome_at tree from name to other slash None over = outcome_of tree (Fault Enoent)
-move_outcome_at tree from name to other slash (Some node) over =
+move_outcome_at tree from name to new_name slash None over = outcome_of tree (Fault Enoent)
+move_outcome_at tree from name to new_name slash (Some node) over =
     unless_refused (move_fault tree node to slash) tree
     (unless_refused (mount_fault over) tree
-    (move_outcome_over tree from name to other node over))
+    (move_outcome_over tree from name to new_name node over))
 
-abbrev pub move_outcome : Tree → ℕ → List ℕ → ℕ → List ℕ → Bool → Option Listing → Option Listing → NamesOutcome
-move_outcome tree from name to other slash None target = outcome_of tree Gone
-move_outcome tree from name to other slash (Some source) None = outcome_of tree Gone
-move_outcome tree from name to other slash (Some source) (Some target) = move_outcome_at tree from name to other slash (entry_at source name) (entry_at target other)
+abbrev pub move_outcome : Tree → ℕ → List ℕ → ℕ → List ℕ → Bool → Listing → Listing → NamesOutcome
+move_outcome tree from name to new_name slash source target = move_outcome_at tree from name to new_name slash (entry_at source name) (entry_at target new_name)
 
 -- `list`: the names from a position on, as many as one list has, mounts among them
 abbrev pub names_from : Listing → ℕ → List (List ℕ)
 names_from directory start = take list_max (drop start (keys_of directory.entries))
 
-abbrev pub list_answer : Option Listing → ℕ → NameAnswer
-list_answer None start = Gone
-list_answer (Some directory) start = Names (names_from directory start)
+abbrev pub list_answer : Listing → ℕ → NameAnswer
+list_answer directory start = Names (names_from directory start)
 
 -- each operation on a tree
 abbrev pub nstep : Tree → NameOp → NamesOutcome
-nstep tree (Look id name) = outcome_of tree (look_answer (dir_at tree id) name)
-nstep tree (Parent id) = outcome_of tree (parent_answer (dir_at tree id))
-nstep tree (Makedir id name) = makedir_outcome tree id name (dir_at tree id)
-nstep tree (Addlink id name text) = addlink_outcome tree id name text (dir_at tree id)
-nstep tree (Addfile id name file) = addfile_outcome tree id name file (dir_at tree id)
-nstep tree (Remfile id name slash) = remfile_outcome tree id name slash (dir_at tree id)
-nstep tree (Remdir id name) = remdir_outcome tree id name (dir_at tree id)
-nstep tree (Move from name to other slash) = move_outcome tree from name to other slash (dir_at tree from) (dir_at tree to)
-nstep tree (ListOp id start) = outcome_of tree (list_answer (dir_at tree id) start)
+nstep tree (Look id name) = unless_gone tree (dir_at tree id) (λ directory. outcome_of tree (look_answer directory name))
+nstep tree (Parent id) = unless_gone tree (dir_at tree id) (λ directory. outcome_of tree (parent_answer directory))
+nstep tree (Makedir id name) = unless_gone tree (dir_at tree id) (makedir_outcome tree id name)
+nstep tree (Addlink id name text) = unless_gone tree (dir_at tree id) (addlink_outcome tree id name text)
+nstep tree (Addfile id name file) = unless_gone tree (dir_at tree id) (addfile_outcome tree id name file)
+nstep tree (Remfile id name slash) = unless_gone tree (dir_at tree id) (remfile_outcome tree id name slash)
+nstep tree (Remdir id name) = unless_gone tree (dir_at tree id) (remdir_outcome tree id name)
+nstep tree (Move from name to new_name slash) = unless_gone tree (dir_at tree from) (λ source. unless_gone tree (dir_at tree to) (move_outcome tree from name to new_name slash source))
+nstep tree (ListOp id start) = unless_gone tree (dir_at tree id) (λ directory. outcome_of tree (list_answer directory start))

@@ -5,7 +5,7 @@ use crate::directory::Directory;
 use crate::operation::Node;
 use std::alloc::{AllocError, Global};
 use std::marker::Model;
-use wf_core::{Name, PathText};
+use wf_core::{BackendId, DirId, LinkId, Name, PathText};
 
 /// The directories of a tree, by their ids. A link's id and a removed directory's have none.
 #[derive(Drop)]
@@ -21,10 +21,13 @@ impl Model for Directories {
 
 impl Directories {
     /// The root alone, with the backends that are mounted in it.
-    pub(crate) fn new(alloc: Global, mounts: Vec<(Name, u32)>) -> Result<Directories, AllocError>
+    pub(crate) fn new(
+        alloc: Global,
+        mounts: Vec<(Name, BackendId)>,
+    ) -> Result<Directories, AllocError>
         ensures { IfOk result (λ tree. tree ≡ opening mounts.items) }
     {
-        let mut root = Directory::new(alloc, 0);
+        let mut root = Directory::new(alloc, DirId::ROOT)?;
         for (name, backend) in mounts {
             root.enter(name, Node::Mount(backend))?;
         }
@@ -44,17 +47,17 @@ impl Directories {
         self.slots.len() as u64
     }
 
-    pub(crate) fn get(&self, id: u64) -> Option<&Directory>
+    pub(crate) fn get(&self, id: DirId) -> Option<&Directory>
         ensures directory { option_copied result ≡ dir_at self.now id }
         ensures within { IsSome result → id < length self.now }
     {
-        match self.slots.get(id as usize) {
+        match self.slots.get(id.number() as usize) {
             Some(Some(directory)) => Some(directory),
             _ => None,
         }
     }
 
-    pub(crate) fn is_empty(&self, id: u64) -> bool
+    pub(crate) fn is_empty(&self, id: DirId) -> bool
         ensures { result ≡ is_empty (dir_at self.now id) }
     {
         match self.get(id) {
@@ -63,17 +66,17 @@ impl Directories {
         }
     }
 
-    fn up(&self, id: u64) -> u64
+    fn up(&self, id: DirId) -> DirId
         ensures { result ≡ up self.now id }
     {
         match self.get(id) {
             Some(directory) => directory.parent(),
-            None => 0,
+            None => DirId::ROOT,
         }
     }
 
     /// Whether directory `top` is met on the way from `id` up to the root.
-    pub(crate) fn is_inside(&self, top: u64, id: u64) -> bool
+    pub(crate) fn is_inside(&self, top: DirId, id: DirId) -> bool
         ensures { result ≡ is_inside (length self.now) self.now top id }
     {
         let mut here = id;
@@ -81,7 +84,7 @@ impl Directories {
             if here == top {
                 return true;
             }
-            if here == 0 {
+            if here == DirId::ROOT {
                 return false;
             }
             here = self.up(here);
@@ -90,11 +93,11 @@ impl Directories {
     }
 
     /// Enters a node in a directory under that name, in the place of what is there.
-    pub(crate) fn enter(&mut self, id: u64, name: Name, node: Node) -> Result<(), AllocError>
+    pub(crate) fn enter(&mut self, id: DirId, name: Name, node: Node) -> Result<(), AllocError>
         ensures ok { OnOk result (self.new ≡ with_entry_at self.old id name node) }
         ensures err { OnErr result (self.new ≡ self.old) }
     {
-        let index = id as usize;
+        let index = id.number() as usize;
         if index >= self.slots.len() {
             return Ok(());
         }
@@ -102,10 +105,10 @@ impl Directories {
     }
 
     /// Takes an entry out of a directory.
-    pub(crate) fn unlink(&mut self, id: u64, name: &Name)
+    pub(crate) fn unlink(&mut self, id: DirId, name: &Name)
         ensures { self.new ≡ without_entry_at self.old id name.now }
     {
-        let index = id as usize;
+        let index = id.number() as usize;
         if index >= self.slots.len() {
             return;
         }
@@ -117,13 +120,13 @@ impl Directories {
     }
 
     /// Gives a directory, where there is one, its new parent.
-    pub(crate) fn set_parent(&mut self, child: Option<u64>, parent: u64)
+    pub(crate) fn set_parent(&mut self, child: Option<DirId>, parent: DirId)
         ensures { self.new ≡ with_parent_at self.old child parent }
     {
         let Some(id) = child else {
             return;
         };
-        let index = id as usize;
+        let index = id.number() as usize;
         if index >= self.slots.len() {
             return;
         }
@@ -135,13 +138,13 @@ impl Directories {
     }
 
     /// Ends a directory, where there is one. Its id is not used again.
-    pub(crate) fn free(&mut self, child: Option<u64>)
+    pub(crate) fn free(&mut self, child: Option<DirId>)
         ensures { self.new ≡ without_directory self.old child }
     {
         let Some(id) = child else {
             return;
         };
-        let index = id as usize;
+        let index = id.number() as usize;
         if index >= self.slots.len() {
             return;
         }
@@ -149,30 +152,39 @@ impl Directories {
     }
 
     /// Makes an empty directory under that name in a directory.
-    pub(crate) fn grow(&mut self, id: u64, name: Name) -> Result<u64, AllocError>
+    pub(crate) fn grow(&mut self, id: DirId, name: Name) -> Result<DirId, AllocError>
         requires { id < length self.old }
         ensures made { IfOk result (λ made. made ≡ length self.old) }
         ensures ok { OnOk result (self.new ≡ with_new_directory self.old id name) }
         ensures err { OnErr result (self.new ≡ self.old) }
     {
-        let made = self.slots.len() as u64;
+        let made = DirId::new(self.next_id());
+        let directory = Directory::new(self.alloc(), id)?;
         self.slots.reserve(1)?;
-        enter_slot(&mut self.slots[id as usize], name, Node::Dir(made))?;
-        let alloc = *self.slots.allocator();
-        self.slots.push_reserved(Some(Directory::new(alloc, id)));
+        enter_slot(&mut self.slots[id.number() as usize], name, Node::Dir(made))?;
+        self.slots.push_reserved(Some(directory));
         Ok(made)
     }
 
     /// Makes a link under that name in a directory. It takes an id, which has no directory.
-    pub(crate) fn link(&mut self, id: u64, name: Name, text: PathText) -> Result<u64, AllocError>
+    pub(crate) fn link(
+        &mut self,
+        id: DirId,
+        name: Name,
+        text: PathText,
+    ) -> Result<LinkId, AllocError>
         requires { id < length self.old }
         ensures made { IfOk result (λ made. made ≡ length self.old) }
         ensures ok { OnOk result (self.new ≡ with_new_link self.old id name text) }
         ensures err { OnErr result (self.new ≡ self.old) }
     {
-        let made = self.slots.len() as u64;
+        let made = LinkId::new(self.next_id());
         self.slots.reserve(1)?;
-        enter_slot(&mut self.slots[id as usize], name, Node::Link(made, text))?;
+        enter_slot(
+            &mut self.slots[id.number() as usize],
+            name,
+            Node::Link(made, text),
+        )?;
         self.slots.push_reserved(None);
         Ok(made)
     }

@@ -2,7 +2,9 @@
 #![tactic(auto)]
 
 pub use laws::{
-    lines_name_each_once, openings_are_sound, refusals_change_nothing, steps_stay_sound,
+    addfile_enters, addlink_makes, ids_are_new, ids_rise, inside_is_climbing, lines_name_each_once,
+    makedir_makes, mounts_stay, move_moves, openings_are_sound, openings_have_their_mounts,
+    refusals_change_nothing, remdir_removes, remfile_removes, same_is_one_entry, steps_stay_sound,
 };
 pub use name_list::NameList;
 pub use name_tree::NameTree;

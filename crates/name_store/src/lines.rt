@@ -1,11 +1,14 @@
-ghost use Rattle.std.specs.Prelude.{◌≡◌, ◌+◌, ◌^◌, ◌<◌, ◌∷◌, ◌++◌, [], IfOk, OnOk};
-ghost use Rattle.name_store.specs.TreeLines.{line_of, lines_below, tree_lines};
+ghost use Rattle.std.specs.Prelude.{◌≡◌, ◌∷◌, ◌++◌, [], IfOk, OnOk, option_map};
+ghost use Rattle.std.specs.Option.{option_to_list};
+ghost use Rattle.name_store.specs.NameTrees.{dir_at};
+ghost use Rattle.name_store.specs.TreeLines.{line_of, tree_lines};
 
 use crate::directories::Directories;
 use crate::operation::Node;
 use crate::tree_line::{TreeLine, line_of};
 use std::alloc::{AllocError, Global};
-use wf_core::{Name, Text};
+use std::collections::btree_map;
+use wf_core::{DirId, Name, Text};
 
 impl Directories {
     /// The lines of the tree, from the root downwards. A tree of 2^32 ids or more has none: it is want of memory.
@@ -16,34 +19,40 @@ impl Directories {
             return Err(AllocError);
         };
         let mut lines = Vec::new(alloc);
-        lines.push(TreeLine::Dir(0, Text::read(alloc, b"/")?))?;
-        self.add_lines(alloc, levels, 0, 0, &mut lines)?;
+        let name = Text::read(alloc, b"/")?;
+        lines.push(TreeLine::Dir { depth: 0, name })?;
+        // What is left of each directory on the way down, so that the way may be as long as memory allows.
+        let mut way = Vec::new(alloc);
+        self.descend(DirId::ROOT, &mut way)?;
+        while let Some(mut entries) = way.pop() {
+            let Some((name, node)) = entries.next() else {
+                continue;
+            };
+            way.push(entries)?;
+            let depth = way.len() as u32;
+            push_line(alloc, depth, name, node, &mut lines)?;
+            let Some(child) = node.directory() else {
+                continue;
+            };
+            // No tree has more levels than ids.
+            if depth < levels {
+                self.descend(child, &mut way)?;
+            }
+        }
         Ok(lines)
     }
 
-    fn add_lines(
-        &self,
-        alloc: Global,
-        levels: u32,
-        depth: u32,
-        id: u64,
-        lines: &mut Vec<TreeLine>,
+    /// Goes into a directory, where there is one.
+    fn descend<'a>(
+        &'a self,
+        id: DirId,
+        way: &mut Vec<btree_map::Iter<'a, Name, Node>>,
     ) -> Result<(), AllocError>
-        requires { depth + levels < 2 ^ 32 }
-        ensures { OnOk result
-            (lines.new.items ≡ lines.old.items ++ lines_below levels self.now depth id) }
+        ensures { OnOk result (way.new.items ≡ way.old.items
+            ++ option_to_list (option_map (λ directory. directory.entries) (dir_at self.now id))) }
     {
-        if levels == 0 {
-            return Ok(());
-        }
-        let Some(directory) = self.get(id) else {
-            return Ok(());
-        };
-        for (name, node) in directory.entries() {
-            push_line(alloc, depth + 1, name, node, lines)?;
-            if let Node::Dir(child) = node {
-                self.add_lines(alloc, levels - 1, depth + 1, *child, lines)?;
-            }
+        if let Some(directory) = self.get(id) {
+            way.push(directory.entries())?;
         }
         Ok(())
     }

@@ -1,15 +1,15 @@
 ghost use Rattle.std.specs.Prelude.{◌≡◌, IfOk, OnErr};
-ghost use Rattle.name_store.specs.NameTrees.{dir_at, addfile_outcome, addlink_outcome, makedir_outcome};
+ghost use Rattle.name_store.specs.NameTrees.{dir_at, addfile_outcome, addlink_outcome, makedir_outcome, unless_gone};
 
 use crate::directories::Directories;
 use crate::operation::{NameAnswer, Node};
 use std::alloc::AllocError;
-use wf_core::{Errno, Name, PathText};
+use wf_core::{DirId, Errno, FileId, Name, PathText};
 
 impl Directories {
-    pub(crate) fn makedir(&mut self, id: u64, name: &Name) -> Result<NameAnswer, AllocError>
+    pub(crate) fn makedir(&mut self, id: DirId, name: &Name) -> Result<NameAnswer, AllocError>
         ensures ok { IfOk result
-            (λ answer. makedir_outcome self.old id name.now (dir_at self.old id)
+            (λ answer. unless_gone self.old (dir_at self.old id) (makedir_outcome self.old id name.now)
             ≡ record { tree = self.new; answer = answer }) }
         ensures err { OnErr result (self.new ≡ self.old) }
     {
@@ -20,17 +20,18 @@ impl Directories {
             return Ok(NameAnswer::Fault(Errno::Eexist));
         }
         let made = self.grow(id, name.clone()?)?;
-        Ok(NameAnswer::Made(made))
+        Ok(NameAnswer::MadeDir(made))
     }
 
     pub(crate) fn addlink(
         &mut self,
-        id: u64,
+        id: DirId,
         name: &Name,
         text: &PathText,
     ) -> Result<NameAnswer, AllocError>
         ensures ok { IfOk result
-            (λ answer. addlink_outcome self.old id name.now text.now (dir_at self.old id)
+            (λ answer. unless_gone self.old (dir_at self.old id)
+            (addlink_outcome self.old id name.now text.now)
             ≡ record { tree = self.new; answer = answer }) }
         ensures err { OnErr result (self.new ≡ self.old) }
     {
@@ -41,17 +42,17 @@ impl Directories {
             return Ok(NameAnswer::Fault(Errno::Eexist));
         }
         let made = self.link(id, name.clone()?, text.clone()?)?;
-        Ok(NameAnswer::Made(made))
+        Ok(NameAnswer::MadeLink(made))
     }
 
     pub(crate) fn addfile(
         &mut self,
-        id: u64,
+        id: DirId,
         name: &Name,
-        file: u64,
+        file: FileId,
     ) -> Result<NameAnswer, AllocError>
         ensures ok { IfOk result
-            (λ answer. addfile_outcome self.old id name.now file (dir_at self.old id)
+            (λ answer. unless_gone self.old (dir_at self.old id) (addfile_outcome self.old id name.now file)
             ≡ record { tree = self.new; answer = answer }) }
         ensures err { OnErr result (self.new ≡ self.old) }
     {

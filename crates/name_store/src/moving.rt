@@ -1,23 +1,24 @@
 ghost use Rattle.std.specs.Prelude.{◌≡◌, IfOk, OnOk, OnErr, option_copied};
-ghost use Rattle.name_store.specs.NameTrees.{dir_at, dir_in, dir_of, with_entry_at, without_directory, is_same_entry, mount_fault, move_answer, move_fault, move_outcome, over_fault, with_parent_at, without_entry_at};
+ghost use Rattle.name_store.specs.NameTrees.{dir_at, dir_in, dir_of, with_entry_at, without_directory, is_same_entry, mount_fault, move_answer, move_fault, move_outcome, over_fault, unless_gone, with_parent_at, without_entry_at};
 
 use crate::directories::Directories;
 use crate::operation::{NameAnswer, Node};
 use std::alloc::AllocError;
-use wf_core::{Errno, Name};
+use wf_core::{DirId, Errno, Name};
 
 impl Directories {
-    /// Moves the entry `name` of directory `from` to the entry `other` of directory `to`.
+    /// Moves the entry `name` of directory `from` to the entry `new_name` of directory `to`.
     pub(crate) fn move_entry(
         &mut self,
-        from: u64,
+        from: DirId,
         name: &Name,
-        to: u64,
-        other: &Name,
+        to: DirId,
+        new_name: &Name,
         slash: bool,
     ) -> Result<NameAnswer, AllocError>
-        ensures ok { IfOk result (λ answer. move_outcome self.old from name.now to other.now slash
-            (dir_at self.old from) (dir_at self.old to)
+        ensures ok { IfOk result (λ answer. unless_gone self.old (dir_at self.old from) (λ source.
+            unless_gone self.old (dir_at self.old to)
+            (move_outcome self.old from name.now to new_name.now slash source))
             ≡ record { tree = self.new; answer = answer }) }
         ensures err { OnErr result (self.new ≡ self.old) }
     {
@@ -30,14 +31,14 @@ impl Directories {
         let Some(node) = source.entry(name) else {
             return Ok(NameAnswer::Fault(Errno::Enoent));
         };
-        let over = target.entry(other);
+        let over = target.entry(new_name);
         if let Some(errno) = self.move_fault(node, to, slash) {
             return Ok(NameAnswer::Fault(errno));
         }
         if let Some(errno) = mount_fault(over) {
             return Ok(NameAnswer::Fault(errno));
         }
-        if is_same_entry(from, name, to, other) {
+        if is_same_entry(from, name, to, new_name) {
             return Ok(NameAnswer::Same);
         }
         if let Some(errno) = self.over_fault(node, over) {
@@ -46,12 +47,12 @@ impl Directories {
         let answer = move_answer(over);
         let replaced = directory_in(over);
         let node = node.clone()?;
-        self.relocate(from, name, to, other.clone()?, node, replaced)?;
+        self.relocate(from, name, to, new_name.clone()?, node, replaced)?;
         Ok(answer)
     }
 
     /// Why a node is not moved to directory `to`, whatever is there.
-    fn move_fault(&self, node: &Node, to: u64, slash: bool) -> Option<Errno>
+    fn move_fault(&self, node: &Node, to: DirId, slash: bool) -> Option<Errno>
         ensures { result ≡ move_fault self.now node.now to slash }
     {
         match node {
@@ -78,20 +79,20 @@ impl Directories {
     /// Makes the move. The entry is put at its new place first, since that alone can want memory.
     fn relocate(
         &mut self,
-        from: u64,
+        from: DirId,
         name: &Name,
-        to: u64,
-        other: Name,
+        to: DirId,
+        new_name: Name,
         node: Node,
-        replaced: Option<u64>,
+        replaced: Option<DirId>,
     ) -> Result<(), AllocError>
         ensures ok { OnOk result (self.new ≡ without_directory (with_parent_at
-            (without_entry_at (with_entry_at self.old to other node) from name.now)
+            (without_entry_at (with_entry_at self.old to new_name node) from name.now)
             (dir_of node) to) replaced) }
         ensures err { OnErr result (self.new ≡ self.old) }
     {
-        let child = directory_of(&node);
-        self.enter(to, other, node)?;
+        let child = node.directory();
+        self.enter(to, new_name, node)?;
         self.unlink(from, name);
         self.set_parent(child, to);
         self.free(replaced);
@@ -99,10 +100,10 @@ impl Directories {
     }
 }
 
-fn is_same_entry(from: u64, name: &Name, to: u64, other: &Name) -> bool
-    ensures { result ≡ is_same_entry from name.now to other.now }
+fn is_same_entry(from: DirId, name: &Name, to: DirId, new_name: &Name) -> bool
+    ensures { result ≡ is_same_entry from name.now to new_name.now }
 {
-    from == to && name == other
+    from == to && name == new_name
 }
 
 /// A mount is not replaced.
@@ -124,18 +125,8 @@ fn move_answer(over: Option<&Node>) -> NameAnswer
     }
 }
 
-/// The directory that a node is.
-fn directory_of(node: &Node) -> Option<u64>
-    ensures { result ≡ dir_of node.now }
-{
-    match node {
-        Node::Dir(id) => Some(*id),
-        _ => None,
-    }
-}
-
-fn directory_in(over: Option<&Node>) -> Option<u64>
+fn directory_in(over: Option<&Node>) -> Option<DirId>
     ensures { result ≡ dir_in (option_copied over.entry) }
 {
-    directory_of(over?)
+    over?.directory()
 }

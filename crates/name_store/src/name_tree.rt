@@ -11,7 +11,7 @@ use crate::operation::{NameAnswer, NameOp};
 use crate::tree_line::TreeLine;
 use std::alloc::{AllocError, Global};
 use std::marker::Model;
-use wf_core::Name;
+use wf_core::{BackendId, Name};
 
 /// The names of one backend, seen as a tree, which is sound.
 #[derive(Drop)]
@@ -33,7 +33,7 @@ impl Model for NameTree {
 impl NameTree {
     /// The tree before the first operation: the root alone, in which each backend is mounted under its name. Of two
     /// with one name the later is.
-    pub fn new(alloc: Global, mounts: Vec<(Name, u32)>) -> Result<NameTree, AllocError>
+    pub fn new(alloc: Global, mounts: Vec<(Name, BackendId)>) -> Result<NameTree, AllocError>
         ensures { IfOk result (λ tree. tree ≡ opening mounts.items) }
     {
         Ok(NameTree {

@@ -1,22 +1,20 @@
 ghost use Rattle.std.specs.Prelude.{◌≡◌, IfOk, IsOk};
 ghost use Rattle.name_store.specs.Forms.{IsPlain};
+ghost use Rattle.name_store.specs.NameTrees.{dir_of};
 
 use crate::name_list::NameList;
 use std::alloc::AllocError;
-use wf_core::{Errno, Name, PathText};
+use wf_core::{BackendId, DirId, Errno, FileId, LinkId, Name, PathText};
 
-/// What an entry of a directory is. Ids of directories and links are numbers of the tree that the entry
-/// stands in, ids of files are numbers of the file store.
+/// What an entry of a directory is.
 #[derive(Clone, Debug, PartialEq, Eq, Drop)]
 pub enum Node {
-    /// The directory with that id.
-    Dir(u64),
-    /// The link with that id, and the path that it leads to.
-    Link(u64, PathText),
-    /// The file with that id.
-    File(u64),
-    /// The root of the backend with that number.
-    Mount(u32),
+    Dir(DirId),
+    /// A link, and the path that it leads to.
+    Link(LinkId, PathText),
+    File(FileId),
+    /// The root of a backend.
+    Mount(BackendId),
 }
 
 impl Node {
@@ -32,30 +30,61 @@ impl Node {
             Node::Mount(backend) => Ok(Node::Mount(*backend)),
         }
     }
+
+    /// The directory that it is.
+    pub(crate) fn directory(&self) -> Option<DirId>
+        ensures { result ≡ dir_of self.now }
+    {
+        match self {
+            Node::Dir(id) => Some(*id),
+            _ => None,
+        }
+    }
 }
 
-/// An operation on the names of one backend. A directory is named by its id; the root is 0.
+/// An operation on the names of one backend.
 #[derive(Debug, Drop)]
 pub enum NameOp {
     /// What is that name in that directory?
-    Look(u64, Name),
+    Look(DirId, Name),
     /// Which directory has that directory in it?
-    Parent(u64),
+    Parent(DirId),
     /// Makes an empty directory under that name in that directory.
-    Makedir(u64, Name),
-    /// Makes a link to that path under that name in that directory.
-    Addlink(u64, Name, PathText),
-    /// Enters the file with the last id under that name in that directory.
-    Addfile(u64, Name, u64),
-    /// Removes a file or a link. The flag says that a slash follows the name, which a directory's alone may have.
-    Remfile(u64, Name, bool),
+    Makedir(DirId, Name),
+    /// Makes a link to a path under that name in that directory.
+    Addlink {
+        directory: DirId,
+        name: Name,
+        text: PathText,
+    },
+    /// Enters a file under that name in that directory.
+    Addfile {
+        directory: DirId,
+        name: Name,
+        file: FileId,
+    },
+    /// Removes a file or a link. `slash` says that a slash follows the name, which a directory's alone may have.
+    Remfile {
+        directory: DirId,
+        name: Name,
+        slash: bool,
+    },
     /// Removes an empty directory.
-    Remdir(u64, Name),
-    /// Moves the first name's entry to the second directory and name, in the place of what it replaces. The
-    /// flag says that a slash follows either name.
-    Move(u64, Name, u64, Name, bool),
-    /// At most `LIST_MAX` names of that directory, from that position on, in the order of their bytes.
-    List(u64, u32),
+    Remdir(DirId, Name),
+    /// Moves an entry to directory `to` and a new name, in the place of what it replaces. `slash` says that a slash
+    /// follows either name.
+    Move {
+        from: DirId,
+        name: Name,
+        to: DirId,
+        new_name: Name,
+        slash: bool,
+    },
+    /// At most `LIST_MAX` names of a directory, from a position on, in the order of their bytes.
+    List {
+        directory: DirId,
+        start: u32,
+    },
 }
 
 /// What an operation answers.
@@ -67,20 +96,22 @@ pub enum NameAnswer {
     Absent,
     /// What has that name, or the parent.
     Found(Node),
-    /// The new directory's or link's id.
-    Made(u64),
+    /// The new directory.
+    MadeDir(DirId),
+    /// The new link.
+    MadeLink(LinkId),
     /// The name is there already, so no file was entered.
     Taken(Node),
     /// The file was entered, or the directory removed.
     Done,
-    /// The file with that id was removed from the directory.
-    RemovedFile(u64),
+    /// That file was removed from the directory.
+    RemovedFile(FileId),
     /// A link was removed from the directory.
     RemovedLink,
     /// Both names are one entry, which stays.
     Same,
-    /// The entry was moved, and the file with that id replaced.
-    Over(u64),
+    /// The entry was moved, and that file replaced.
+    Over(FileId),
     /// The entry was moved, and no file replaced.
     Moved,
     /// At most `LIST_MAX` names, in the order of their bytes.

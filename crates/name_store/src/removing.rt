@@ -1,13 +1,13 @@
 ghost use Rattle.std.specs.Prelude.{◌≡◌};
-ghost use Rattle.name_store.specs.NameTrees.{dir_at, remdir_outcome, remfile_outcome};
+ghost use Rattle.name_store.specs.NameTrees.{dir_at, remdir_outcome, remfile_outcome, unless_gone};
 
 use crate::directories::Directories;
 use crate::operation::{NameAnswer, Node};
-use wf_core::{Errno, Name};
+use wf_core::{DirId, Errno, Name};
 
 impl Directories {
-    pub(crate) fn remfile(&mut self, id: u64, name: &Name, slash: bool) -> NameAnswer
-        ensures { remfile_outcome self.old id name.now slash (dir_at self.old id)
+    pub(crate) fn remfile(&mut self, id: DirId, name: &Name, slash: bool) -> NameAnswer
+        ensures { unless_gone self.old (dir_at self.old id) (remfile_outcome self.old id name.now slash)
             ≡ record { tree = self.new; answer = result } }
     {
         let Some(directory) = self.get(id) else {
@@ -24,8 +24,8 @@ impl Directories {
         removed
     }
 
-    pub(crate) fn remdir(&mut self, id: u64, name: &Name) -> NameAnswer
-        ensures { remdir_outcome self.old id name.now (dir_at self.old id)
+    pub(crate) fn remdir(&mut self, id: DirId, name: &Name) -> NameAnswer
+        ensures { unless_gone self.old (dir_at self.old id) (remdir_outcome self.old id name.now)
             ≡ record { tree = self.new; answer = result } }
     {
         let Some(directory) = self.get(id) else {

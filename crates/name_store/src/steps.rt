@@ -1,11 +1,11 @@
 ghost use Rattle.std.specs.Prelude.{◌≡◌, IfOk, IsOk, OnErr};
-ghost use Rattle.name_store.specs.NameTrees.{dir_at, list_answer, look_answer, nstep, parent_answer};
+ghost use Rattle.name_store.specs.NameTrees.{dir_at, list_answer, look_answer, nstep, outcome_of, parent_answer, unless_gone};
 ghost use Rattle.name_store.specs.Forms.{HasNoText, IsForm, IsSpare};
 
 use crate::directories::Directories;
 use crate::operation::{NameAnswer, NameOp, Node};
 use std::alloc::AllocError;
-use wf_core::Name;
+use wf_core::{DirId, Name};
 
 impl Directories {
     /// Takes one step, which is the definition's. Want of memory changes nothing.
@@ -20,20 +20,38 @@ impl Directories {
             NameOp::Look(id, name) => self.look(*id, name),
             NameOp::Parent(id) => Ok(self.parent(*id)),
             NameOp::Makedir(id, name) => self.makedir(*id, name),
-            NameOp::Addlink(id, name, text) => self.addlink(*id, name, text),
-            NameOp::Addfile(id, name, file) => self.addfile(*id, name, *file),
-            NameOp::Remfile(id, name, slash) => Ok(self.remfile(*id, name, *slash)),
+            NameOp::Addlink {
+                directory,
+                name,
+                text,
+            } => self.addlink(*directory, name, text),
+            NameOp::Addfile {
+                directory,
+                name,
+                file,
+            } => self.addfile(*directory, name, *file),
+            NameOp::Remfile {
+                directory,
+                name,
+                slash,
+            } => Ok(self.remfile(*directory, name, *slash)),
             NameOp::Remdir(id, name) => Ok(self.remdir(*id, name)),
-            NameOp::Move(from, name, to, other, slash) => {
-                self.move_entry(*from, name, *to, other, *slash)
-            }
-            NameOp::List(id, start) => self.list(*id, *start),
+            NameOp::Move {
+                from,
+                name,
+                to,
+                new_name,
+                slash,
+            } => self.move_entry(*from, name, *to, new_name, *slash),
+            NameOp::List { directory, start } => self.list(*directory, *start),
         }
     }
 
-    fn look(&self, id: u64, name: &Name) -> Result<NameAnswer, AllocError>
-        ensures ok { IfOk result (λ answer. answer ≡ look_answer (dir_at self.now id) name.now) }
-        ensures succeeds { HasNoText (look_answer (dir_at self.now id) name.now) → IsOk result }
+    fn look(&self, id: DirId, name: &Name) -> Result<NameAnswer, AllocError>
+        ensures ok { IfOk result (λ answer. nstep self.now (NameOp.Look id name.now)
+            ≡ outcome_of self.now answer) }
+        ensures succeeds { HasNoText (nstep self.now (NameOp.Look id name.now)).answer
+            → IsOk result }
     {
         let Some(directory) = self.get(id) else {
             return Ok(NameAnswer::Gone);
@@ -44,8 +62,8 @@ impl Directories {
         }
     }
 
-    fn parent(&self, id: u64) -> NameAnswer
-        ensures { result ≡ parent_answer (dir_at self.now id) }
+    fn parent(&self, id: DirId) -> NameAnswer
+        ensures { nstep self.now (NameOp.Parent id) ≡ outcome_of self.now result }
     {
         match self.get(id) {
             Some(directory) => NameAnswer::Found(Node::Dir(directory.parent())),
@@ -53,9 +71,11 @@ impl Directories {
         }
     }
 
-    fn list(&self, id: u64, start: u32) -> Result<NameAnswer, AllocError>
-        ensures ok { IfOk result (λ answer. answer ≡ list_answer (dir_at self.now id) start) }
-        ensures succeeds { HasNoText (list_answer (dir_at self.now id) start) → IsOk result }
+    fn list(&self, id: DirId, start: u32) -> Result<NameAnswer, AllocError>
+        ensures ok { IfOk result (λ answer. nstep self.now (NameOp.List id start)
+            ≡ outcome_of self.now answer) }
+        ensures succeeds { HasNoText (nstep self.now (NameOp.List id start)).answer
+            → IsOk result }
     {
         match self.get(id) {
             Some(directory) => Ok(NameAnswer::Names(directory.names(self.alloc(), start)?)),

@@ -3,19 +3,30 @@ ghost use Rattle.name_store.specs.TreeLines.{line_of};
 
 use crate::operation::Node;
 use std::alloc::{AllocError, Global};
-use wf_core::{Name, Text};
+use wf_core::{BackendId, FileId, Name, Text};
 
 /// A line of a printed tree, of one entry. The root has depth 0 and the name `/`.
 #[derive(Debug, Drop)]
 pub enum TreeLine {
-    /// A directory at that depth.
-    Dir(u32, Text),
-    /// A link at that depth, its name and its text.
-    Link(u32, Text, Text),
-    /// A file at that depth, its name and its id.
-    File(u32, Text, u64),
-    /// A mount at that depth, its name and the number of its backend.
-    Mount(u32, Text, u32),
+    Dir {
+        depth: u32,
+        name: Text,
+    },
+    Link {
+        depth: u32,
+        name: Text,
+        text: Text,
+    },
+    File {
+        depth: u32,
+        name: Text,
+        file: FileId,
+    },
+    Mount {
+        depth: u32,
+        name: Text,
+        backend: BackendId,
+    },
 }
 
 /// The line of an entry at a depth.
@@ -29,9 +40,20 @@ pub(crate) fn line_of(
 {
     let name = Text::read(alloc, name.as_bytes())?;
     match node {
-        Node::Dir(_) => Ok(TreeLine::Dir(depth, name)),
-        Node::Link(_, text) => Ok(TreeLine::Link(depth, name, Text::read(alloc, text.as_bytes())?)),
-        Node::File(file) => Ok(TreeLine::File(depth, name, *file)),
-        Node::Mount(backend) => Ok(TreeLine::Mount(depth, name, *backend)),
+        Node::Dir(_) => Ok(TreeLine::Dir { depth, name }),
+        Node::Link(_, text) => {
+            let text = Text::read(alloc, text.as_bytes())?;
+            Ok(TreeLine::Link { depth, name, text })
+        }
+        Node::File(file) => Ok(TreeLine::File {
+            depth,
+            name,
+            file: *file,
+        }),
+        Node::Mount(backend) => Ok(TreeLine::Mount {
+            depth,
+            name,
+            backend: *backend,
+        }),
     }
 }

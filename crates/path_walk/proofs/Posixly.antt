@@ -5,8 +5,9 @@ use Rattle.wf_core.specs.declared.errno.Errno.TheVariants.{Enoent, Eexist}
 use Rattle.name_store.specs.declared.operation.Node.{Node}
 use Rattle.name_store.specs.declared.operation.Node.TheVariants.{Dir as DirNode, Link as LinkNode, File as FileNode, Mount as MountNode}
 use Rattle.name_store.specs.declared.operation.NameOp.{NameOp}
+use Rattle.name_store.specs.declared.operation.NameAnswer.{NameAnswer}
 use Rattle.name_store.specs.declared.operation.NameOp.TheVariants.{Look, Parent}
-use Rattle.name_store.specs.NameTrees.{Tree, Listing, dir_at, entry_at, nstep, parent_answer, look_answer, look_answer_at, makedir_outcome_at, makedir_outcome as made_in_tree, NamesOutcome}
+use Rattle.name_store.specs.NameTrees.{Tree, Listing, dir_at, entry_at, nstep, outcome_of, parent_answer, look_answer, look_answer_at, makedir_outcome_at, makedir_outcome as made_in_tree, unless_gone, NamesOutcome}
 use Rattle.path_walk.specs.declared.part.Part.{Part}
 use Rattle.path_walk.specs.declared.part.Part.TheVariants.{Here, Up, Down, TooLong}
 use Rattle.path_walk.specs.declared.step.StoreAnswer.TheVariants.{Names as NamesAnswer}
@@ -39,6 +40,11 @@ goes_run : (store : Store) (op : NameOp) (next : ℕ → Program) → (nstep (na
 goes_run store op next h =
     ap (λ (s : Store). run (led (way_of (Answered (NamesAnswer (nstep (names_at store 0) op).answer))) next) s) (ap (with_names store 0) h ∙ unchanged store)
 
+-- what is only asked of a directory leaves the tree
+asked_same : (tree : Tree) (directory : Option Listing) (answer : Listing → NameAnswer) → (unless_gone tree directory (λ d. outcome_of tree (answer d))).tree ≡ tree
+asked_same tree None answer = refl
+asked_same tree (Some directory) answer = refl
+
 -- a walk along the rest leads where the rest leads, from any directory
 abbrev Leads : Store → List Part → (ℕ → ℕ → Program) → Type 0
 Leads store rest next = (names here : ℕ) → run (walk rest names here next) store ≡ ended store (resolve (names_at store 0) rest names here) next
@@ -50,18 +56,18 @@ entry_resolves store rest names next (Some (LinkNode id text)) on = refl
 entry_resolves store rest names next (Some (FileNode file)) on = refl
 entry_resolves store rest names next (Some (MountNode backend)) on = refl
 
-below_resolves : (store : Store) (rest : List Part) (names : ℕ) (name : List ℕ) (next : ℕ → ℕ → Program) (directory : Option Listing) → Leads store rest next → run (led (way_of (Answered (NamesAnswer (look_answer directory name)))) (λ there. walk rest names there next)) store ≡ ended store (along (below directory name) (λ there. resolve (names_at store 0) rest names there)) next
+below_resolves : (store : Store) (rest : List Part) (names : ℕ) (name : List ℕ) (next : ℕ → ℕ → Program) (directory : Option Listing) → Leads store rest next → run (led (way_of (Answered (NamesAnswer (unless_gone (names_at store 0) directory (λ d. outcome_of (names_at store 0) (look_answer d name))).answer))) (λ there. walk rest names there next)) store ≡ ended store (along (below directory name) (λ there. resolve (names_at store 0) rest names there)) next
 below_resolves store rest names name next None on = refl
 below_resolves store rest names name next (Some directory) on = entry_resolves store rest names next (entry_at directory name) on
 
-above_resolves : (store : Store) (rest : List Part) (names : ℕ) (next : ℕ → ℕ → Program) (directory : Option Listing) → Leads store rest next → run (led (way_of (Answered (NamesAnswer (parent_answer directory)))) (λ there. walk rest names there next)) store ≡ ended store (along (above directory) (λ there. resolve (names_at store 0) rest names there)) next
+above_resolves : (store : Store) (rest : List Part) (names : ℕ) (next : ℕ → ℕ → Program) (directory : Option Listing) → Leads store rest next → run (led (way_of (Answered (NamesAnswer (unless_gone (names_at store 0) directory (λ d. outcome_of (names_at store 0) (parent_answer d))).answer))) (λ there. walk rest names there next)) store ≡ ended store (along (above directory) (λ there. resolve (names_at store 0) rest names there)) next
 above_resolves store rest names next None on = refl
 above_resolves store rest names next (Some directory) on = on names directory.parent
 
 up_resolves : (store : Store) (rest : List Part) (names here : ℕ) (next : ℕ → ℕ → Program) (is_root : Bool) → Leads store rest next → run (if is_root then walk rest names here next else goes (Parent here) (λ there. walk rest names there next)) store ≡ ended store (along (if is_root then Ok here else above (dir_at (names_at store 0) here)) (λ there. resolve (names_at store 0) rest names there)) next
 up_resolves store rest names here next true on = on names here
 up_resolves store rest names here next false on =
-    goes_run store (Parent here) (λ there. walk rest names there next) refl ∙ above_resolves store rest names next (dir_at (names_at store 0) here) on
+    goes_run store (Parent here) (λ there. walk rest names there next) (asked_same (names_at store 0) (dir_at (names_at store 0) here) parent_answer) ∙ above_resolves store rest names next (dir_at (names_at store 0) here) on
 
 -- a walk over a store leads where the path leads
 resolves : (store : Store) (parts : List Part) (names here : ℕ) (next : ℕ → ℕ → Program) → run (walk parts names here next) store ≡ ended store (resolve (names_at store 0) parts names here) next
@@ -72,7 +78,7 @@ resolves store (Up ∷ rest) (suc names) here next = up_resolves store rest name
 resolves store (TooLong ∷ rest) names here next = refl
 resolves store (Down name ∷ rest) zero here next = refl
 resolves store (Down name ∷ rest) (suc names) here next =
-    goes_run store (Look here name) (λ there. walk rest names there next) refl
+    goes_run store (Look here name) (λ there. walk rest names there next) (asked_same (names_at store 0) (dir_at (names_at store 0) here) (λ d. look_answer d name))
     ∙ below_resolves store rest names name next (dir_at (names_at store 0) here) (λ n d. resolves store rest n d next)
 
 -- what the last step of `mkdir` replies and leaves
@@ -83,7 +89,7 @@ makes_in : (store : Store) (here : ℕ) (name : List ℕ) (node : Option Node) �
 makes_in store here name (Some node) = ap (λ (s : Store). replied s (Fault Eexist)) (unchanged store)
 makes_in store here name None = refl
 
-makes_under : (store : Store) (here : ℕ) (name : List ℕ) (directory : Option Listing) → makes (made_in_tree (names_at store 0) here name directory) store ≡ made_under store here name directory
+makes_under : (store : Store) (here : ℕ) (name : List ℕ) (directory : Option Listing) → makes (unless_gone (names_at store 0) directory (made_in_tree (names_at store 0) here name)) store ≡ made_under store here name directory
 makes_under store here name None = ap (λ (s : Store). replied s (Fault Enoent)) (unchanged store)
 makes_under store here name (Some directory) = makes_in store here name (entry_at directory name)
 

@@ -7,7 +7,7 @@ use Rattle.wf_core.specs.declared.errno.Errno.TheVariants.{Enoent, Eexist, Enotd
 use Rattle.name_store.specs.declared.operation.Node.TheVariants.{Dir as DirNode, Link as LinkNode, File as FileNode, Mount as MountNode}
 use Rattle.name_store.specs.declared.operation.NameOp.{NameOp}
 use Rattle.name_store.specs.declared.operation.NameOp.TheVariants.{Look, Parent, Makedir}
-use Rattle.name_store.specs.declared.operation.NameAnswer.TheVariants.{Found, Made, Fault as NameFault}
+use Rattle.name_store.specs.declared.operation.NameAnswer.TheVariants.{Found, MadeDir, Fault as NameFault}
 use Rattle.path_walk.specs.declared.part.Part.{Part}
 use Rattle.path_walk.specs.declared.part.Part.TheVariants.{Here, Up, Down, TooLong}
 use Rattle.path_walk.specs.declared.step.CellId.{CellId}
@@ -57,7 +57,7 @@ abbrev pub goes : NameOp → (ℕ → Program) → Program
 goes op next = asks (NamesCell 0) (NamesOp op) (λ answer. led (way_of answer) next)
 
 -- the walk along the parts of a path from directory `here`, with so many names that may still be taken.
--- The root has itself above it, without a step.
+-- The root is its own parent, without a step.
 abbrev pub walk : List Part → ℕ → ℕ → (ℕ → ℕ → Program) → Program
 walk [] names here next = next names here
 walk (Here ∷ rest) names here next = walk rest names here next
@@ -73,7 +73,7 @@ abbrev pub asked : ℕ → ℕ → Program
 asked names here = finished Dir
 
 abbrev pub made_reply : StepAnswer → Reply
-made_reply (Answered (NamesAnswer (Made id))) = Done
+made_reply (Answered (NamesAnswer (MadeDir id))) = Done
 made_reply (Answered (NamesAnswer (NameFault error))) = Fault error
 made_reply (Answered (NamesAnswer (Found node))) = Fault Eexist
 made_reply (Answered (NamesAnswer answer)) = Fault Enoent

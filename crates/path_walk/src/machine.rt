@@ -14,7 +14,7 @@ use name_store::{NameAnswer, Node};
 use std::alloc::{AllocError, Global};
 use std::marker::Model;
 use std::mem;
-use wf_core::{Errno, PATH_MAX, PATH_NAMES_MAX, PathText};
+use wf_core::{DirId, Errno, PATH_MAX, PATH_NAMES_MAX, PathText};
 
 /// One call, step by step: it tells which step it needs, and goes on from the answer.
 #[derive(Drop)]
@@ -77,7 +77,7 @@ impl CallMachine {
         ensures root { AsksRoot result.need }
     {
         match mem::replace(&mut self.stage, Stage::Over) {
-            Stage::Walking(trail) => match way(answer) {
+            Stage::Walking(trail) => match way(&answer) {
                 Ok(here) => trail.proceed(here),
                 Err(errno) => over(Reply::Fault(errno)),
             },
@@ -113,7 +113,7 @@ fn begin_stat(alloc: Global, path: &PathText) -> Result<Turn, AllocError>
         rest: Parts::read(alloc, path)?,
         goal: Goal::Ask,
     };
-    Ok(trail.proceed(0))
+    Ok(trail.proceed(DirId::ROOT))
 }
 
 fn begin_mkdir(alloc: Global, path: &PathText) -> Result<Turn, AllocError>
@@ -131,20 +131,20 @@ fn begin_mkdir(alloc: Global, path: &PathText) -> Result<Turn, AllocError>
         rest,
         goal: Goal::Make(last),
     };
-    Ok(trail.proceed(0))
+    Ok(trail.proceed(DirId::ROOT))
 }
 
 /// Where the answer to a look-up leads. A file is no directory, and a link or a mount is not gone through.
-fn way(answer: StepAnswer) -> Result<u64, Errno>
-    ensures { result ≡ way_of answer }
+fn way(answer: &StepAnswer) -> Result<DirId, Errno>
+    ensures { result ≡ way_of answer.now }
 {
     match answer {
         StepAnswer::Answered(StoreAnswer::Names(answer)) => match answer {
-            NameAnswer::Found(Node::Dir(id)) => Ok(id),
+            NameAnswer::Found(Node::Dir(id)) => Ok(*id),
             NameAnswer::Found(Node::File(_)) => Err(Errno::Enotdir),
             NameAnswer::Found(Node::Link(..)) => Err(Errno::Eloop),
             NameAnswer::Found(Node::Mount(_)) => Err(Errno::Exdev),
-            NameAnswer::Fault(errno) => Err(errno),
+            NameAnswer::Fault(errno) => Err(*errno),
             _ => Err(Errno::Enoent),
         },
         StepAnswer::Cancelled => Err(Errno::Ecanceled),
@@ -158,7 +158,7 @@ fn made(answer: StepAnswer) -> Reply
 {
     match answer {
         StepAnswer::Answered(StoreAnswer::Names(answer)) => match answer {
-            NameAnswer::Made(_) => Reply::Done,
+            NameAnswer::MadeDir(_) => Reply::Done,
             NameAnswer::Fault(errno) => Reply::Fault(errno),
             NameAnswer::Found(_) => Reply::Fault(Errno::Eexist),
             _ => Reply::Fault(Errno::Enoent),

@@ -1,10 +1,11 @@
 use name_store::{NameAnswer, NameOp};
+use wf_core::BackendId;
 
 /// A cell of the store: what changes under one step.
 #[derive(Clone, Copy, Debug, PartialEq, Eq)]
 pub enum CellId {
-    /// The names of that backend; the root's is number 0.
-    Names(u32),
+    /// The names of that backend.
+    Names(BackendId),
 }
 
 /// An operation on a cell.

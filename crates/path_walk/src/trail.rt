@@ -6,7 +6,7 @@ use crate::call::{Call, Need, Reply};
 use crate::part::{Part, Parts};
 use crate::step::{CellId, StoreOp};
 use name_store::NameOp;
-use wf_core::Errno;
+use wf_core::{BackendId, DirId, Errno};
 
 /// What a call does where its walk has led to.
 #[derive(Debug, Drop)]
@@ -66,13 +66,13 @@ fn step(stage: Stage, op: NameOp) -> Turn
 {
     Turn {
         stage,
-        need: Need::Step(CellId::Names(0), StoreOp::Names(op)),
+        need: Need::Step(CellId::Names(BackendId::ROOT), StoreOp::Names(op)),
     }
 }
 
 impl Goal {
     /// What the call does in the directory that its walk led to.
-    fn reach(self, names: u32, here: u64) -> Turn
+    fn reach(self, names: u32, here: DirId) -> Turn
         ensures shows { Shows result.need (after_walk self names here) result.stage }
         ensures falls { (before : ℕ) → names ≤ before → Falls result.need before result.stage }
         ensures root { AsksRoot result.need }
@@ -89,7 +89,7 @@ impl Goal {
 
 impl Trail {
     /// Goes on from the directory that was reached.
-    pub(crate) fn proceed(mut self, here: u64) -> Turn
+    pub(crate) fn proceed(mut self, here: DirId) -> Turn
         ensures shows { Shows result.need (walk self.rest self.names here (after_walk self.goal)) result.stage }
         ensures falls { Falls result.need self.names result.stage }
         ensures root { AsksRoot result.need }
@@ -97,7 +97,7 @@ impl Trail {
         while let Some(part) = self.rest.next() {
             match part {
                 Part::Here => {}
-                Part::Up if here == 0 && self.names > 0 => self.names -= 1,
+                Part::Up if here == DirId::ROOT && self.names > 0 => self.names -= 1,
                 Part::Up => return self.ask(NameOp::Parent(here)),
                 Part::Down(name) => return self.ask(NameOp::Look(here, name)),
                 Part::TooLong => return fault(Errno::Enametoolong),

@@ -104,7 +104,7 @@ fn a_text_is_printed(rt: HostRuntime) -> Result<(), Fail> {
     push_reply_line(&mut text, b"A", 2, Reply::Dir)?;
     push_reply_line(&mut text, b"A", 10, Reply::Fault(Errno::Eexist))?;
     let name = Text::read(rt.alloc(), b"usr")?;
-    push_tree_line(&mut text, &TreeLine::Dir(1, name))?;
+    push_tree_line(&mut text, &TreeLine::Dir { depth: 1, name })?;
     push_end_line(&mut text)?;
     let printed = b"reply A 1 ok\nreply A 2 ok dir\nreply A 10 EEXIST\ndir 1 usr\nend\n";
     assert_eq!(rt; text.as_slice(), printed.as_slice());

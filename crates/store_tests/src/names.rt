@@ -2,15 +2,24 @@ use name_store::{NameAnswer, NameOp, NameTree, Node, TreeLine};
 use std::alloc::{AllocError, Global};
 use std::process::Abort;
 use std::test::Fail;
-use wf_core::{Name, PathText};
+use wf_core::{BackendId, DirId, FileId, Name, PathText, Text};
 
 mod depth;
+mod limits;
 mod lists;
 mod moves;
 mod rows;
 
 fn number(word: Option<&str>) -> Result<u64, Fail> {
     Ok(word.ok_or("a number is missing")?.parse::<u64>()?)
+}
+
+fn directory(word: Option<&str>) -> Result<DirId, Fail> {
+    Ok(DirId::new(number(word)?))
+}
+
+fn slash(word: Option<&str>) -> Result<bool, Fail> {
+    Ok(number(word)? == 1)
 }
 
 fn name(alloc: Global, word: Option<&str>) -> Result<Name, Fail> {
@@ -21,42 +30,62 @@ fn name(alloc: Global, word: Option<&str>) -> Result<Name, Fail> {
 fn read_op(alloc: Global, line: &str) -> Result<NameOp, Fail> {
     let mut words = line.split(' ');
     let word = words.next().ok_or("an operation is missing")?;
-    let id = number(words.next())?;
+    let id = directory(words.next())?;
     if word == "parent" {
         return Ok(NameOp::Parent(id));
     }
     if word == "list" {
-        return Ok(NameOp::List(id, u32::try_from(number(words.next())?)?));
+        return Ok(NameOp::List {
+            directory: id,
+            start: u32::try_from(number(words.next())?)?,
+        });
     }
     let first = name(alloc, words.next())?;
     match word {
         "look" => Ok(NameOp::Look(id, first)),
         "makedir" => Ok(NameOp::Makedir(id, first)),
         "remdir" => Ok(NameOp::Remdir(id, first)),
-        "addfile" => Ok(NameOp::Addfile(id, first, number(words.next())?)),
-        "remfile" => Ok(NameOp::Remfile(id, first, number(words.next())? == 1)),
+        "addfile" => Ok(NameOp::Addfile {
+            directory: id,
+            name: first,
+            file: FileId::new(number(words.next())?),
+        }),
+        "remfile" => Ok(NameOp::Remfile {
+            directory: id,
+            name: first,
+            slash: slash(words.next())?,
+        }),
         "addlink" => {
             let text = words.next().ok_or("a text is missing")?;
-            Ok(NameOp::Addlink(id, first, PathText::read(alloc, text.as_bytes())?))
+            Ok(NameOp::Addlink {
+                directory: id,
+                name: first,
+                text: PathText::read(alloc, text.as_bytes())?,
+            })
         }
-        _ => {
-            let to = number(words.next())?;
-            let other = name(alloc, words.next())?;
-            Ok(NameOp::Move(id, first, to, other, number(words.next())? == 1))
-        }
+        _ => Ok(NameOp::Move {
+            from: id,
+            name: first,
+            to: directory(words.next())?,
+            new_name: name(alloc, words.next())?,
+            slash: slash(words.next())?,
+        }),
     }
 }
 
+fn push_number(out: &mut Vec<u8>, word: &str, number: u64) -> Result<(), AllocError> {
+    let text = format!(in *out.allocator(); "{word} {number}")?;
+    out.extend_from_slice(text.as_bytes())
+}
+
 fn push_node(out: &mut Vec<u8>, node: &Node) -> Result<(), AllocError> {
-    let alloc = *out.allocator();
     match node {
-        Node::Dir(id) => out.extend_from_slice(format!(in alloc; "dir {id}")?.as_bytes()),
-        Node::File(file) => out.extend_from_slice(format!(in alloc; "file {file}")?.as_bytes()),
-        Node::Mount(backend) => {
-            out.extend_from_slice(format!(in alloc; "mount {backend}")?.as_bytes())
-        }
+        Node::Dir(id) => push_number(out, "dir", id.number()),
+        Node::File(file) => push_number(out, "file", file.number()),
+        Node::Mount(backend) => push_number(out, "mount", u64::from(backend.number())),
         Node::Link(id, text) => {
-            out.extend_from_slice(format!(in alloc; "link {id} ")?.as_bytes())?;
+            push_number(out, "link", id.number())?;
+            out.push(b' ')?;
             out.extend_from_slice(text.as_bytes())
         }
     }
@@ -69,20 +98,17 @@ fn answer_text(alloc: Global, answer: &NameAnswer) -> Result<Vec<u8>, AllocError
         NameAnswer::Gone => out.extend_from_slice(b"gone")?,
         NameAnswer::Absent => out.extend_from_slice(b"absent")?,
         NameAnswer::Found(node) => push_node(&mut out, node)?,
-        NameAnswer::Made(id) => out.extend_from_slice(format!(in alloc; "made {id}")?.as_bytes())?,
+        NameAnswer::MadeDir(id) => push_number(&mut out, "dir", id.number())?,
+        NameAnswer::MadeLink(id) => push_number(&mut out, "link", id.number())?,
         NameAnswer::Taken(node) => {
             out.extend_from_slice(b"taken ")?;
             push_node(&mut out, node)?;
         }
         NameAnswer::Done => out.extend_from_slice(b"done")?,
-        NameAnswer::RemovedFile(file) => {
-            out.extend_from_slice(format!(in alloc; "file {file}")?.as_bytes())?
-        }
+        NameAnswer::RemovedFile(file) => push_number(&mut out, "file", file.number())?,
         NameAnswer::RemovedLink => out.extend_from_slice(b"link")?,
         NameAnswer::Same => out.extend_from_slice(b"same")?,
-        NameAnswer::Over(file) => {
-            out.extend_from_slice(format!(in alloc; "over {file}")?.as_bytes())?
-        }
+        NameAnswer::Over(file) => push_number(&mut out, "over", file.number())?,
         NameAnswer::Moved => out.extend_from_slice(b"moved")?,
         NameAnswer::Names(names) => {
             out.extend_from_slice(b"names")?;
@@ -96,31 +122,35 @@ fn answer_text(alloc: Global, answer: &NameAnswer) -> Result<Vec<u8>, AllocError
     Ok(out)
 }
 
+fn push_line(out: &mut Vec<u8>, word: &str, depth: u32, name: &Text) -> Result<(), AllocError> {
+    push_number(out, word, u64::from(depth))?;
+    out.push(b' ')?;
+    out.extend_from_slice(name.as_bytes())
+}
+
 /// The lines of a tree, each as its kind, depth, name and rest.
 fn tree_text(alloc: Global, tree: &NameTree) -> Result<Vec<u8>, AllocError> {
     let mut out = Vec::new(alloc);
     let lines = tree.lines(alloc)?;
     for line in lines.as_slice() {
         match line {
-            TreeLine::Dir(depth, name) => {
-                out.extend_from_slice(format!(in alloc; "dir {depth} ")?.as_bytes())?;
-                out.extend_from_slice(name.as_bytes())?;
-            }
-            TreeLine::Link(depth, name, text) => {
-                out.extend_from_slice(format!(in alloc; "link {depth} ")?.as_bytes())?;
-                out.extend_from_slice(name.as_bytes())?;
+            TreeLine::Dir { depth, name } => push_line(&mut out, "dir", *depth, name)?,
+            TreeLine::Link { depth, name, text } => {
+                push_line(&mut out, "link", *depth, name)?;
                 out.push(b' ')?;
                 out.extend_from_slice(text.as_bytes())?;
             }
-            TreeLine::File(depth, name, file) => {
-                out.extend_from_slice(format!(in alloc; "file {depth} ")?.as_bytes())?;
-                out.extend_from_slice(name.as_bytes())?;
-                out.extend_from_slice(format!(in alloc; " {file}")?.as_bytes())?;
+            TreeLine::File { depth, name, file } => {
+                push_line(&mut out, "file", *depth, name)?;
+                push_number(&mut out, "", file.number())?;
             }
-            TreeLine::Mount(depth, name, backend) => {
-                out.extend_from_slice(format!(in alloc; "mount {depth} ")?.as_bytes())?;
-                out.extend_from_slice(name.as_bytes())?;
-                out.extend_from_slice(format!(in alloc; " {backend}")?.as_bytes())?;
+            TreeLine::Mount {
+                depth,
+                name,
+                backend,
+            } => {
+                push_line(&mut out, "mount", *depth, name)?;
+                push_number(&mut out, "", u64::from(backend.number()))?;
             }
         }
         out.push(b'\n')?;
@@ -143,9 +173,9 @@ fn check_steps(
     Ok(())
 }
 
-fn mounts(alloc: Global) -> Result<Vec<(Name, u32)>, Fail> {
+fn mounts(alloc: Global) -> Result<Vec<(Name, BackendId)>, Fail> {
     let mut mounts = Vec::new(alloc);
-    mounts.push((Name::read(alloc, b"p")?, 2))?;
-    mounts.push((Name::read(alloc, b"m")?, 1))?;
+    mounts.push((Name::read(alloc, b"p")?, BackendId::new(2)))?;
+    mounts.push((Name::read(alloc, b"m")?, BackendId::new(1)))?;
     Ok(mounts)
 }

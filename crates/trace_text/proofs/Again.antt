@@ -13,7 +13,7 @@ use Rattle.trace_text.specs.Traces.{Traced}
 use Rattle.wf_core.specs.Names.{is_text}
 use Rattle.trace_text.specs.Fields.{pieces_of, fields_of, header, is_label, is_path}
 use Rattle.trace_text.specs.Grammar.{◌>>=◌, named, thread_of, worded, call_of, calls_at, threaded, trace_at}
-use Rattle.trace_text.specs.Spelling.{call_text, path_in, call_line, AreCalls, IsBody, Reads}
+use Rattle.trace_text.specs.Spelling.{call_text, path_of, call_line, AreCalls, IsBody, Reads}
 use Rattle.trace_text.proofs.Bytes.{lacks, lacks_joined, one_piece, first_piece}
 use Rattle.trace_text.proofs.FieldBytes.{label_without_line_end, label_without_space, path_without_line_end, path_without_space}
 use Rattle.trace_text.proofs.Lines.{call_in, line_text, spaced, thread_in}
@@ -44,7 +44,7 @@ labelled number name path word p =
     ap (λ (b : Bool). if b then worded number word (if is_path path then Some path else None) else Err (UnknownWord number)) (is_itself (name ++ codes ":"))
     ∙ ap (λ (b : Bool). worded number word (if b then Some path else None)) p
 
-call_read : (number : ℕ) (name : List ℕ) (call : Call) → is_label name ≡ true → is_path (path_in call) ≡ true → call_of number name (line_text name call) true ≡ Ok call
+call_read : (number : ℕ) (name : List ℕ) (call : Call) → is_label name ≡ true → is_path (path_of call) ≡ true → call_of number name (line_text name call) true ≡ Ok call
 call_read number name (Mkdir path) h p = ap (λ (fs : List (List ℕ)). call_in number name fs true) (call_fields name (codes "mkdir") path h refl p) ∙ labelled number name path (Some MkdirWord) p
 call_read number name (Stat path) h p = ap (λ (fs : List (List ℕ)). call_in number name fs true) (call_fields name (codes "stat") path h refl p) ∙ labelled number name path (Some StatWord) p
 
@@ -64,11 +64,11 @@ calls_read name h number (line ∷ lines) are =
 
 -- the pieces of the text
 
-call_without_line_end : (call : Call) → is_path (path_in call) ≡ true → lacks 10 (call_text call) ≡ true
+call_without_line_end : (call : Call) → is_path (path_of call) ≡ true → lacks 10 (call_text call) ≡ true
 call_without_line_end (Mkdir path) p = lacks_joined 10 (codes "mkdir ") path refl (path_without_line_end path p)
 call_without_line_end (Stat path) p = lacks_joined 10 (codes "stat ") path refl (path_without_line_end path p)
 
-line_without_line_end : (name : List ℕ) (call : Call) → is_label name ≡ true → is_path (path_in call) ≡ true → lacks 10 (line_text name call) ≡ true
+line_without_line_end : (name : List ℕ) (call : Call) → is_label name ≡ true → is_path (path_of call) ≡ true → lacks 10 (line_text name call) ≡ true
 line_without_line_end name call h p =
     lacks_joined 10 (name ++ codes ": ") (call_text call) (lacks_joined 10 name (codes ": ") (label_without_line_end name h) refl) (call_without_line_end call p)
 

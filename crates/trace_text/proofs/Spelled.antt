@@ -15,8 +15,8 @@ use Rattle.trace_text.specs.declared.refusal.TraceRefusal.TheVariants.{Header, U
 use Rattle.trace_text.specs.Traces.{Traced}
 use Rattle.wf_core.specs.Names.{is_text}
 use Rattle.trace_text.specs.Fields.{pieces_of, lines_of, rest_of, fields_of, header, is_label, is_path}
-use Rattle.trace_text.specs.Grammar.{◌>>=◌, field_is, name_in, named, thread_of, word_of, path_in as path_at, call_with, worded, call_of, calls_at, threaded, headed, trace_at}
-use Rattle.trace_text.specs.Spelling.{call_text, path_in, call_line, AreCalls, IsBody, Reads}
+use Rattle.trace_text.specs.Grammar.{◌>>=◌, field_is, name_in, named, thread_of, word_of, path_in, call_with, worded, call_of, calls_at, threaded, headed, trace_at}
+use Rattle.trace_text.specs.Spelling.{call_text, path_of, call_line, AreCalls, IsBody, Reads}
 use Rattle.trace_text.proofs.Lines.{call_in, line_text, spaced, thread_in}
 
 bind_ok : {A B : Type 0} (read : Result A TraceRefusal) (next : A → Result B TraceRefusal) (y : B) → (read >>= next) ≡ Ok y → (x : A) × (read ≡ Ok x) × (next x ≡ Ok y)
@@ -85,11 +85,11 @@ call_text_with : (word : CallWord) (path : List ℕ) → word_text word ++ 32 �
 call_text_with MkdirWord path = refl
 call_text_with StatWord path = refl
 
-path_in_with : (word : CallWord) (path : List ℕ) → path_in (call_with word path) ≡ path
-path_in_with MkdirWord path = refl
-path_in_with StatWord path = refl
+path_of_with : (word : CallWord) (path : List ℕ) → path_of (call_with word path) ≡ path
+path_of_with MkdirWord path = refl
+path_of_with StatWord path = refl
 
-no_path : (fields : List (List ℕ)) → path_at fields false ≡ None
+no_path : (fields : List (List ℕ)) → path_in fields false ≡ None
 no_path [] = refl
 no_path (a ∷ []) = refl
 no_path (a ∷ b ∷ []) = refl
@@ -117,22 +117,22 @@ word_spelled field word h =
     ]
 
 call_spelled_in : (number : ℕ) (word path : List ℕ) (call : Call) → worded number (word_of (Some word)) (if is_path path then Some path else None) ≡ Ok call
-    → (word ++ 32 ∷ path ≡ call_text call) × (is_path (path_in call) ≡ true)
+    → (word ++ 32 ∷ path ≡ call_text call) × (is_path (path_of call) ≡ true)
 call_spelled_in number word path call h =
     let so = worded_so number (word_of (Some word)) (is_path path) path call h in (
       ap (λ (field : List ℕ). field ++ 32 ∷ path) (word_spelled word so.1 so.2) ∙ call_text_with so.1 path ∙ ap call_text so.3,
-      ap (λ (c : Call). is_path (path_in c)) (sym so.3) ∙ ap is_path (path_in_with so.1 path) ∙ so.0,
+      ap (λ (c : Call). is_path (path_of c)) (sym so.3) ∙ ap is_path (path_of_with so.1 path) ∙ so.0,
     )
 
 unended_call : (number : ℕ) (name line : List ℕ) (call : Call) → call_of number name line false ≡ Ok call → ⊥
 unended_call number name line call h =
-    elim (chosen (field_is (name ++ codes ":") (slice_get (fields_of line) 0)) (worded number (word_of (slice_get (fields_of line) 1)) (path_at (fields_of line) false)) (Err (UnknownWord number)) (Ok call) h) [
+    elim (chosen (field_is (name ++ codes ":") (slice_get (fields_of line) 0)) (worded number (word_of (slice_get (fields_of line) 1)) (path_in (fields_of line) false)) (Err (UnknownWord number)) (Ok call) h) [
       | inl p ↦ worded_nowhere number (word_of (slice_get (fields_of line) 1)) call (sym (ap (worded number (word_of (slice_get (fields_of line) 1))) (no_path (fields_of line))) ∙ p.1)
       | inr p ↦ (let clash : Err (UnknownWord number) ≡ Ok call = p.1 in cc)
     ]
 
 call_fields : (number : ℕ) (name : List ℕ) (fields : List (List ℕ)) (line : List ℕ) (call : Call) → line ≡ join_with_byte 32 fields → call_in number name fields true ≡ Ok call
-    → (line ≡ line_text name call) × (is_path (path_in call) ≡ true)
+    → (line ≡ line_text name call) × (is_path (path_of call) ≡ true)
 call_fields number name [] line call e h = (cc)
 call_fields number name (a ∷ []) line call e h =
     elim (chosen (is_text a (name ++ codes ":")) (worded number None None) (Err (UnknownWord number)) (Ok call) h) [
@@ -156,7 +156,7 @@ call_fields number name (a ∷ b ∷ c ∷ d ∷ fields) line call e h =
       | inr p ↦ (let clash : Err (UnknownWord number) ≡ Ok call = p.1 in cc)
     ]
 
-call_spelled : (number : ℕ) (name line : List ℕ) (call : Call) → call_of number name line true ≡ Ok call → (line ≡ line_text name call) × (is_path (path_in call) ≡ true)
+call_spelled : (number : ℕ) (name line : List ℕ) (call : Call) → call_of number name line true ≡ Ok call → (line ≡ line_text name call) × (is_path (path_of call) ≡ true)
 call_spelled number name line call h = call_fields number name (fields_of line) line call (sym (join_with_byte-slice_split 32 line)) h
 
 -- the calls

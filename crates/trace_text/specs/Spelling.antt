@@ -11,9 +11,9 @@ abbrev pub call_text : Call → List ℕ
 call_text (Mkdir path) = codes "mkdir " ++ path
 call_text (Stat path) = codes "stat " ++ path
 
-abbrev pub path_in : Call → List ℕ
-path_in (Mkdir path) = path
-path_in (Stat path) = path
+abbrev pub path_of : Call → List ℕ
+path_of (Mkdir path) = path
+path_of (Stat path) = path
 
 -- `NAME: CALL`
 abbrev pub call_line : List ℕ → CallLine → List ℕ
@@ -22,7 +22,7 @@ call_line name line = name ++ codes ": " ++ call_text line.call ++ 10 ∷ []
 -- the calls are numbered from `number` on, all of thread 0, and their paths are paths
 abbrev pub AreCalls : ℕ → List CallLine → Type 0
 AreCalls number [] = Unit {0}
-AreCalls number (line ∷ lines) = (line.thread ≡ 0) × (line.number ≡ number) × (is_path (path_in line.call) ≡ true) × AreCalls (number + 1) lines
+AreCalls number (line ∷ lines) = (line.thread ≡ 0) × (line.number ≡ number) × (is_path (path_of line.call) ≡ true) × AreCalls (number + 1) lines
 
 -- the lines after the first: none, or a thread's and its calls'
 abbrev pub IsBody : List (List ℕ) → List CallLine → List ℕ → Type 0

@@ -49,13 +49,13 @@ fn tree_line(alloc: Global, line: &TreeLine) -> Result<Vec<u8>, AllocError>
     ensures { IfOk result (λ text. text.items ≡ tree_text line.now) }
 {
     match line {
-        TreeLine::Dir(depth, name) | TreeLine::Mount(depth, name, _) => {
+        TreeLine::Dir { depth, name } | TreeLine::Mount { depth, name, .. } => {
             named_line(alloc, "dir", *depth, name.as_bytes(), b"\n")
         }
-        TreeLine::File(depth, name, _) => {
+        TreeLine::File { depth, name, .. } => {
             named_line(alloc, "file", *depth, name.as_bytes(), b" 0\n")
         }
-        TreeLine::Link(depth, name, text) => {
+        TreeLine::Link { depth, name, text } => {
             let mut line = named_line(alloc, "link", *depth, name.as_bytes(), b" ")?;
             line.extend_from_slice(text.as_bytes())?;
             line.push(b'\n')?;

@@ -2,7 +2,7 @@ use name_store::{NameAnswer, NameOp, NameTree};
 use std::alloc::Global;
 use std::process::Abort;
 use std::test::Fail;
-use wf_core::Name;
+use wf_core::{DirId, Name};
 
 /// A tree whose root has so many directories, `n100` and on.
 fn tree_of(alloc: Global, count: u32) -> Result<NameTree, Fail> {
@@ -10,7 +10,7 @@ fn tree_of(alloc: Global, count: u32) -> Result<NameTree, Fail> {
     for index in 0..count {
         let number = 100 + u64::from(index);
         let name = Name::read(alloc, format!(in alloc; "n{number}")?.as_bytes())?;
-        let _ = tree.apply(&NameOp::Makedir(0, name))?;
+        let _ = tree.apply(&NameOp::Makedir(DirId::ROOT, name))?;
     }
     Ok(tree)
 }
@@ -23,7 +23,11 @@ fn check_list(
     count: usize,
     first: &str,
 ) -> Result<(), Fail> {
-    let NameAnswer::Names(names) = tree.apply(&NameOp::List(0, start))? else {
+    let op = NameOp::List {
+        directory: DirId::ROOT,
+        start,
+    };
+    let NameAnswer::Names(names) = tree.apply(&op)? else {
         return Err("the answer is no list")?;
     };
     assert_eq!(rt; names.as_slice().len(), count, "from {start}");

@@ -6,4 +6,4 @@ use Rattle.name_store.proofs.directories.Directories.enter.Goals as goal
 pub returns-clause-ok : goal.returns-clause-ok
 returns-clause-ok c =
     let change : Listing → Listing = λ d. with_entry d c.args.name c.args.node in
-    rw (← c.self.view_is) (put_slot_ok c.self.inside.slots.items c.args.id _ _ change c.enter_slot.result (omega arith) c.index_mut.ensures.value c.enter_slot.ensures.ok)
+    rw (← c.self.view_is) (put_slot_ok c.self.inside.slots.items c.args.id c.number-index.result _ _ change c.enter_slot.result c.number-index.ensures (omega arith) c.index_mut.ensures.value c.enter_slot.ensures.ok)

@@ -1,17 +1,16 @@
-use Rattle.std.proofs.Common.{Some, length, ap, ◌∙◌, arith}
+use Rattle.std.proofs.Common.{Some, ap, ◌∙◌}
 use Rattle.name_store.specs.declared.operation.Node.TheVariants.{Dir}
 use Rattle.name_store.proofs.Slots.{grew}
 use Rattle.name_store.proofs.directories.Directories.grow.Goals as goal
 
 pub returns-clause-ok : goal.returns-clause-ok
 returns-clause-ok c =
-    let size = c.self.inside.slots.ok.0 in
-    let same = ap length c.self.view_is in
-    grew c.args.self.now c.reserve.new.self.items _ c.args.id c.len-made.result c.args.name (λ id. Dir id) _ _ _ _
+    grew c.args.self.now c.reserve.new.self.items _ c.args.id c.number.result c.new-made.result c.args.name (λ id. Dir id) _ _ _ _
+    c.number.ensures
     (c.in_ok-reserve.ensures.items ∙ c.self.view_is)
-    (omega (arith, size, same))
+    (c.new-made.ensures ∙ c.next_id.ensures)
     c.requires
     c.index_mut.ensures.value
     c.in_ok-enter_slot.ensures.ok
-    (ap Some c.new.ensures)
+    (ap Some c.in_ok-directory.ensures)
     c.push_reserved.ensures.items

@@ -1,5 +1,5 @@
 use Rattle.std.proofs.Common.{◌≡◌, map}
-use Rattle.name_store.proofs.directory.Directory.names.Given as goal
+use Rattle.name_store.proofs.directory.names_in.Given as goal
 
 -- the names so far
 abbrev pub invariant-loop-name : goal.invariant-loop-name
