@@ -20,7 +20,7 @@ use Rattle.std.proofs.lemmas.Map.Views.{tells_apart}
 use Rattle.file_store.specs.FileBytes.{part, with_length, with_bytes_at, is_page_kept, page_count}
 use Rattle.file_store.specs.Pages.{PageEntries, kept_page, page_at, byte_at, zero_page, flat, overlay_byte, AreWhole, AreTightWithin}
 use Rattle.file_store.proofs.FileBytesLemmas.{length-resized, resized_at, length-overwritten, overwritten_at, length-part, part_at, all_zero_from}
-use Rattle.file_store.proofs.WriteLemmas.{overlaid_after, nonzero_place, not_all_zero}
+use Rattle.file_store.proofs.WriteLemmas.{nonzero_place, not_all_zero}
 
 pub length-flat : (size : ℕ) (pages : PageEntries) → length (flat size pages) ≡ size
 length-flat size pages = length-map-range_with_len (byte_at pages) 0 size

@@ -6,8 +6,11 @@ pub mod CutLemmas
 pub mod FileBytesLemmas
 pub mod ContentsLemmas
 pub mod TableLemmas
+pub mod TableChanges
 pub mod SumLemmas
+pub mod StepCases
+pub mod Soundness
 pub mod FormLemmas
-pub mod LawLemmas
-pub mod SizeLaw
-pub mod OpenFiles
+pub mod StepLaws
+pub mod WriteLawLemmas
+pub mod DescriptorLawLemmas

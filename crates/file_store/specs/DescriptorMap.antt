@@ -2,7 +2,7 @@
 -- After POSIX.1-2017, XSH open() and dup() (the lowest number that is free), dup2() and close(), where a
 -- description ends with its last number. `EBUSY` for a number that an unfinished open() has reserved, and
 -- the steps into which those calls are cut, are this project's own.
-use Rattle.std.specs.Prelude.{◌≡◌, ◌⊎◌, ℕ, ◌==◌, Bool, true, false, ◌&&◌, List, length, replicate, Option, None, Some, unwrap_or, slice_get, slice_set, position, nat_lt, if◌then◌else◌}
+use Rattle.std.specs.Prelude.{◌≡◌, ◌⊎◌, ℕ, ◌<◌, ◌==◌, Bool, true, false, ◌&&◌, List, length, replicate, Option, None, Some, unwrap_or, slice_get, slice_set, position, nat_lt, if◌then◌else◌}
 use Rattle.std.specs.List.{list_any}
 use Rattle.wf_core.specs.Limits.{open_max}
 use Rattle.wf_core.specs.declared.errno.Errno.TheVariants.{Ebadf, Emfile, Ebusy}
@@ -122,9 +122,9 @@ dstep map (op.Copy number) = copy_outcome map (slot_at map number)
 dstep map (op.Copyto number target) = copyto_outcome map (slot_at map number) target
 dstep map (op.Take number) = take_outcome map number (slot_at map number)
 
--- the forms of answer that each operation has
+-- the forms of answer that each operation has. The numbers are those below `open_max`
 abbrev pub IsForm : FdOp → FdAnswer → Type 0
-IsForm op.Reserve (answer.Fd number) = Unit {0}
+IsForm op.Reserve (answer.Fd number) = number < open_max
 IsForm op.Reserve (answer.Fault error) = error ≡ Emfile
 IsForm op.Reserve _ = ⊥
 IsForm (op.FillFile number backend description) answer.Done = Unit {0}
@@ -137,11 +137,11 @@ IsForm (op.Look number) (answer.File backend description) = Unit {0}
 IsForm (op.Look number) (answer.Dir backend id) = Unit {0}
 IsForm (op.Look number) (answer.Fault error) = error ≡ Ebadf
 IsForm (op.Look number) _ = ⊥
-IsForm (op.Copy number) (answer.Fd copy) = Unit {0}
+IsForm (op.Copy number) (answer.Fd copy) = copy < open_max
 IsForm (op.Copy number) (answer.Fault error) = (error ≡ Ebadf) ⊎ (error ≡ Emfile)
 IsForm (op.Copy number) _ = ⊥
-IsForm (op.Copyto number target) (answer.Fd copy) = Unit {0}
-IsForm (op.Copyto number target) (answer.FdLast copy backend description) = Unit {0}
+IsForm (op.Copyto number target) (answer.Fd copy) = (copy ≡ target) × (target < open_max)
+IsForm (op.Copyto number target) (answer.FdLast copy backend description) = (copy ≡ target) × (target < open_max)
 IsForm (op.Copyto number target) (answer.Fault error) = (error ≡ Ebadf) ⊎ (error ≡ Ebusy)
 IsForm (op.Copyto number target) _ = ⊥
 IsForm (op.Take number) answer.Done = Unit {0}

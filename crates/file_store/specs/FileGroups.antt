@@ -3,7 +3,7 @@
 -- read(), pread(), write(), pwrite(), lseek(), ftruncate(), unlink() and close(): a file that was removed
 -- stays until its last description ends. The ids, the limits, that an operation on a description that is
 -- not there is `EBADF`, and that `pwrite()` writes at its offset under `append` too, are this project's own.
-use Rattle.std.specs.Prelude.{◌≡◌, ◌⊎◌, ℕ, ◌+◌, ◌==◌, Bool, true, false, ◌||◌, nat_lt, min, List, [], length, Option, None, Some, Result, Ok, Err, ℤ, pos, negsuc, ◌+ℤ◌, sum_by, if◌then◌else◌}
+use Rattle.std.specs.Prelude.{ℕ, ◌+◌, ◌==◌, Bool, true, false, ◌||◌, nat_lt, min, List, [], length, Option, None, Some, Result, Ok, Err, ℤ, pos, negsuc, ◌+ℤ◌, sum_by, if◌then◌else◌}
 use Rattle.std.specs.List.{list_any}
 use Rattle.wf_core.specs.Limits.{file_max, group_max, offset_max, read_max}
 use Rattle.wf_core.specs.declared.errno.Errno.{Errno}
@@ -239,50 +239,3 @@ fstep group (op.Writeat id bytes offset) = writeat_outcome group bytes offset (o
 fstep group (op.Seek id offset whence) = seek_outcome group id offset whence (open_file_at group id)
 fstep group (op.Cut id size) = cut_outcome group size (open_file_at group id)
 fstep group (op.Size id) = outcome_of group (size_answer (open_file_at group id))
-
--- the forms of answer that each operation has
-abbrev pub IsForm : FileOp → FileAnswer → Type 0
-IsForm (op.Make mode) (answer.File file id) = Unit {0}
-IsForm (op.Make mode) _ = ⊥
-IsForm (op.Attach file mode truncate) answer.Gone = Unit {0}
-IsForm (op.Attach file mode truncate) (answer.Desc id) = Unit {0}
-IsForm (op.Attach file mode truncate) _ = ⊥
-IsForm (op.Sizeof file) answer.Gone = Unit {0}
-IsForm (op.Sizeof file) (answer.Size size) = Unit {0}
-IsForm (op.Sizeof file) _ = ⊥
-IsForm (op.Unlinked file) answer.Done = Unit {0}
-IsForm (op.Unlinked file) _ = ⊥
-IsForm (op.Release id) answer.Done = Unit {0}
-IsForm (op.Release id) (answer.Fault error) = error ≡ Ebadf
-IsForm (op.Release id) _ = ⊥
-IsForm (op.Read id count) (answer.Bytes bytes) = Unit {0}
-IsForm (op.Read id count) (answer.Fault error) = error ≡ Ebadf
-IsForm (op.Read id count) _ = ⊥
-IsForm (op.Readat id count offset) (answer.Bytes bytes) = Unit {0}
-IsForm (op.Readat id count offset) (answer.Fault error) = (error ≡ Ebadf) ⊎ (error ≡ Einval)
-IsForm (op.Readat id count offset) _ = ⊥
-IsForm (op.Write id bytes) (answer.Count count) = Unit {0}
-IsForm (op.Write id bytes) (answer.Fault error) = (error ≡ Ebadf) ⊎ ((error ≡ Efbig) ⊎ (error ≡ Enospc))
-IsForm (op.Write id bytes) _ = ⊥
-IsForm (op.Writeat id bytes offset) (answer.Count count) = Unit {0}
-IsForm (op.Writeat id bytes offset) (answer.Fault error) = (error ≡ Ebadf) ⊎ ((error ≡ Einval) ⊎ ((error ≡ Efbig) ⊎ (error ≡ Enospc)))
-IsForm (op.Writeat id bytes offset) _ = ⊥
-IsForm (op.Seek id offset whence) (answer.At at) = Unit {0}
-IsForm (op.Seek id offset whence) (answer.Fault error) = (error ≡ Ebadf) ⊎ ((error ≡ Einval) ⊎ (error ≡ Eoverflow))
-IsForm (op.Seek id offset whence) _ = ⊥
-IsForm (op.Cut id size) answer.Done = Unit {0}
-IsForm (op.Cut id size) (answer.Fault error) = (error ≡ Ebadf) ⊎ ((error ≡ Einval) ⊎ ((error ≡ Efbig) ⊎ (error ≡ Enospc)))
-IsForm (op.Cut id size) _ = ⊥
-IsForm (op.Size id) (answer.Size size) = Unit {0}
-IsForm (op.Size id) (answer.Fault error) = error ≡ Ebadf
-IsForm (op.Size id) _ = ⊥
-
--- the operations that take no memory
-abbrev pub takes_no_memory : FileOp → Bool
-takes_no_memory (op.Sizeof file) = true
-takes_no_memory (op.Unlinked file) = true
-takes_no_memory (op.Release id) = true
-takes_no_memory (op.Seek id offset whence) = true
-takes_no_memory (op.Cut id size) = true
-takes_no_memory (op.Size id) = true
-takes_no_memory _ = false

@@ -4,5 +4,9 @@ pub mod FileBytes
 pub mod Pages
 pub mod Tables
 pub mod FileGroups
+pub mod FileForms
 pub mod FileTables
+pub mod Sound
 pub mod Laws
+pub mod WriteLaws
+pub mod DescriptorLaws

@@ -7,7 +7,7 @@ use crate::file::Description;
 use std::alloc::{AllocError, Global};
 use std::collections::BTreeMap;
 use std::marker::Model;
-use wf_core::GROUP_COUNT;
+use wf_core::{DescriptionId, FileId, GROUP_COUNT};
 
 /// The open file descriptions of one group, by their ids.
 #[derive(Drop)]
@@ -38,14 +38,14 @@ impl DescriptionTable {
         }
     }
 
-    pub(crate) fn get(&self, id: u64) -> Option<Description>
+    pub(crate) fn get(&self, id: DescriptionId) -> Option<Description>
         ensures { result ≡ row_at self.now id }
     {
-        self.descriptions.get(&id).copied()
+        self.descriptions.get(&id.number()).copied()
     }
 
     /// Whether some description is of that file.
-    pub(crate) fn is_open(&self, file: u64) -> bool
+    pub(crate) fn is_open(&self, file: FileId) -> bool
         ensures { result ≡ is_open self.now file }
     {
         self.descriptions
@@ -54,7 +54,7 @@ impl DescriptionTable {
     }
 
     /// Adds a description and tells its id.
-    pub(crate) fn add(&mut self, description: Description) -> Result<u64, AllocError>
+    pub(crate) fn add(&mut self, description: Description) -> Result<DescriptionId, AllocError>
         ensures ok { IfOk result
             (λ id. (id ≡ self.old.next) × (self.new ≡ with_next_row self.old description)) }
         ensures err { OnErr result (self.new ≡ self.old) }
@@ -66,33 +66,38 @@ impl DescriptionTable {
         };
         self.descriptions.insert(id, description)?;
         self.next = next;
-        Ok(id)
+        Ok(DescriptionId::new(id))
     }
 
     /// Takes back the description that was added last.
-    pub(crate) fn undo_add(&mut self, id: u64)
+    pub(crate) fn undo_add(&mut self, id: DescriptionId)
         requires { IsAdded self.old id }
         ensures { (before : Table Description) (description : Description) → IsFresh before → id
             ≡ before.next → self.old ≡ with_next_row before description → self.new ≡ before }
     {
+        let id = id.number();
         self.descriptions.remove(&id);
         self.next = id;
     }
 
-    /// Moves the offset of a description.
-    pub(crate) fn move_to(&mut self, id: u64, offset: u64)
+    /// Moves the offset of a description that is there.
+    pub(crate) fn move_to(&mut self, id: DescriptionId, offset: u64)
+        requires { IsSome (row_at self.old id) }
         ensures { IfSome (row_at self.old id)
             (λ description. self.new
             ≡ with_row self.old id (record description { offset = offset })) }
     {
-        if let Some(description) = self.descriptions.get_mut(&id) {
-            description.offset = offset;
-        }
+        let Some(description) = self.descriptions.get_mut(&id.number()) else {
+            unreachable!()
+        };
+        description.offset = offset;
     }
 
-    pub(crate) fn remove(&mut self, id: u64)
+    /// Takes away a description that is there.
+    pub(crate) fn remove(&mut self, id: DescriptionId)
+        requires { IsSome (row_at self.old id) }
         ensures { self.new ≡ without_row self.old id }
     {
-        self.descriptions.remove(&id);
+        self.descriptions.remove(&id.number());
     }
 }

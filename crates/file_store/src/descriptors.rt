@@ -6,7 +6,7 @@ use crate::descriptor_operation::{FdAnswer, FdOp, Slot};
 use crate::number_set::NumberSet;
 use std::alloc::{AllocError, Global};
 use std::marker::Model;
-use wf_core::{Errno, OPEN_MAX};
+use wf_core::{BackendId, DescriptionId, Errno, OPEN_MAX};
 
 /// The descriptors, seen as what each number below `OPEN_MAX` is.
 #[derive(Drop)]
@@ -49,14 +49,26 @@ impl Descriptors {
     {
         match *op {
             FdOp::Reserve => self.place(Slot::Reserved),
-            FdOp::FillFile(number, backend, description) => {
-                self.fill(number, Slot::File(backend, description))
-            }
-            FdOp::FillDir(number, backend, id) => self.fill(number, Slot::Dir(backend, id)),
+            FdOp::FillFile {
+                number,
+                backend,
+                description,
+            } => self.fill(
+                number,
+                Slot::File {
+                    backend,
+                    description,
+                },
+            ),
+            FdOp::FillDir {
+                number,
+                backend,
+                dir,
+            } => self.fill(number, Slot::Dir { backend, dir }),
             FdOp::Drop(number) => self.fill(number, Slot::Free),
             FdOp::Look(number) => self.look(number),
             FdOp::Copy(number) => self.copy(number),
-            FdOp::Copyto(number, target) => self.copy_to(number, target),
+            FdOp::Copyto { number, target } => self.copy_to(number, target),
             FdOp::Take(number) => self.take(number),
         }
     }
@@ -81,7 +93,7 @@ impl Descriptors {
     }
 
     /// Whether some number names that description.
-    fn is_open(&self, backend: u32, description: u64) -> bool
+    fn is_open(&self, backend: BackendId, description: DescriptionId) -> bool
         ensures { result ≡ is_description_open backend description self.now }
     {
         self.slots
@@ -95,8 +107,9 @@ impl Descriptors {
         ensures numbers { length self.new ≡ open_max }
     {
         let number = number as usize;
+        let free = slot.is_free();
         self.slots[number] = slot;
-        if slot.is_free() {
+        if free {
             self.free.insert(number);
         } else {
             self.free.remove(number);
@@ -135,8 +148,14 @@ impl Descriptors {
         ensures numbers { length self.now ≡ open_max }
     {
         match self.slot(number) {
-            Slot::File(backend, description) => FdAnswer::File(backend, description),
-            Slot::Dir(backend, id) => FdAnswer::Dir(backend, id),
+            Slot::File {
+                backend,
+                description,
+            } => FdAnswer::File {
+                backend,
+                description,
+            },
+            Slot::Dir { backend, dir } => FdAnswer::Dir { backend, dir },
             Slot::Free | Slot::Reserved => FdAnswer::Fault(Errno::Ebadf),
         }
     }
@@ -174,14 +193,21 @@ impl Descriptors {
     {
         match self.slot(number) {
             Slot::Reserved => FdAnswer::Fault(Errno::Ebusy),
-            Slot::File(backend, description) => {
+            Slot::File {
+                backend,
+                description,
+            } => {
                 self.set(number, slot);
                 if self.is_open(backend, description) {
                     return FdAnswer::Fd(number);
                 }
-                FdAnswer::FdLast(number, backend, description)
+                FdAnswer::FdLast {
+                    number,
+                    backend,
+                    description,
+                }
             }
-            Slot::Free | Slot::Dir(_, _) => {
+            Slot::Free | Slot::Dir { .. } => {
                 self.set(number, slot);
                 FdAnswer::Fd(number)
             }
@@ -195,14 +221,20 @@ impl Descriptors {
     {
         match self.slot(number) {
             Slot::Free | Slot::Reserved => FdAnswer::Fault(Errno::Ebadf),
-            Slot::File(backend, description) => {
+            Slot::File {
+                backend,
+                description,
+            } => {
                 self.set(number, Slot::Free);
                 if self.is_open(backend, description) {
                     return FdAnswer::Done;
                 }
-                FdAnswer::Last(backend, description)
+                FdAnswer::Last {
+                    backend,
+                    description,
+                }
             }
-            Slot::Dir(_, _) => {
+            Slot::Dir { .. } => {
                 self.set(number, Slot::Free);
                 FdAnswer::Done
             }

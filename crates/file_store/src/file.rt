@@ -1,5 +1,6 @@
 use crate::contents::Contents;
 use crate::file_operation::Mode;
+use wf_core::FileId;
 
 /// A file: its bytes, and whether a directory has an entry of it.
 #[derive(Drop)]
@@ -8,10 +9,10 @@ pub(crate) struct File {
     pub(crate) linked: bool,
 }
 
-/// An open file description: the id of its file, how that is open, and the offset in bytes.
+/// An open file description: its file, how that is open, and the offset in bytes.
 #[derive(Clone, Copy, Drop)]
 pub(crate) struct Description {
-    pub(crate) file: u64,
+    pub(crate) file: FileId,
     pub(crate) mode: Mode,
     pub(crate) offset: u64,
 }

@@ -1,7 +1,7 @@
 ghost use Rattle.std.specs.Prelude.{◌≡◌};
 ghost use Rattle.file_store.specs.FileGroups.{can_read, can_write};
 
-use wf_core::{Errno, Text};
+use wf_core::{DescriptionId, Errno, FileId, Text};
 
 /// What a description may do with its file, as `O_RDONLY`, `O_WRONLY` and `O_RDWR` say.
 #[derive(Clone, Copy, Debug, PartialEq, Eq)]
@@ -46,44 +46,72 @@ pub enum Whence {
     End,
 }
 
-/// An operation on the files of one group. Files and descriptions are named by their ids.
+/// An operation on the files of one group. Offsets and sizes are in bytes.
 #[derive(Debug, Drop)]
 pub enum FileOp {
     /// Makes an empty linked file, and a description of it at offset 0.
     Make(Mode),
-    /// Makes a description of a linked file, which is first emptied where the flag is set.
-    Attach(u64, Mode, bool),
+    /// Makes a description of a linked file, which is first emptied where `truncate` is set.
+    Attach {
+        file: FileId,
+        mode: Mode,
+        truncate: bool,
+    },
     /// How many bytes does that linked file have?
-    Sizeof(u64),
+    Sizeof(FileId),
     /// That file was removed from its directory. Without a description it is freed.
-    Unlinked(u64),
+    Unlinked(FileId),
     /// Ends that description, and its file where that is not linked and has no other.
-    Release(u64),
-    /// Reads at most so many bytes, and `READ_MAX`, from the description's offset, which moves on.
-    Read(u64, u32),
-    /// Reads at most so many bytes, and `READ_MAX`, from that offset.
-    Readat(u64, u32, i64),
+    Release(DescriptionId),
+    /// Reads at most `count` bytes, and `READ_MAX`, from the description's offset, which moves on.
+    Read {
+        description: DescriptionId,
+        count: u32,
+    },
+    /// Reads at most `count` bytes, and `READ_MAX`, from that offset.
+    Readat {
+        description: DescriptionId,
+        count: u32,
+        offset: i64,
+    },
     /// Writes bytes at the description's offset, or at the file's end under `append`.
-    Write(u64, Text),
+    Write {
+        description: DescriptionId,
+        bytes: Text,
+    },
     /// Writes bytes at that offset.
-    Writeat(u64, Text, i64),
+    Writeat {
+        description: DescriptionId,
+        bytes: Text,
+        offset: i64,
+    },
     /// Moves the description's offset, to at most `OFFSET_MAX`.
-    Seek(u64, i64, Whence),
+    Seek {
+        description: DescriptionId,
+        offset: i64,
+        whence: Whence,
+    },
     /// Has the description's file be of that size.
-    Cut(u64, i64),
+    Cut {
+        description: DescriptionId,
+        size: i64,
+    },
     /// How many bytes does the description's file have?
-    Size(u64),
+    Size(DescriptionId),
 }
 
 /// What an operation answers.
 #[derive(Debug, Drop)]
 pub enum FileAnswer {
     /// The new file and its description.
-    File(u64, u64),
+    File {
+        file: FileId,
+        description: DescriptionId,
+    },
     /// The file is not linked, or there is no such file.
     Gone,
     /// The new description.
-    Desc(u64),
+    Desc(DescriptionId),
     /// The file's size in bytes.
     Size(u64),
     /// It was done, and there is nothing to tell.

@@ -10,7 +10,7 @@ use crate::file::File;
 use std::alloc::{AllocError, Global};
 use std::collections::BTreeMap;
 use std::marker::Model;
-use wf_core::{Errno, FILE_MAX, GROUP_COUNT, GROUP_MAX};
+use wf_core::{Errno, FILE_MAX, FileId, GROUP_COUNT, GROUP_MAX};
 
 /// The files of one group, by their ids.
 #[derive(Drop)]
@@ -47,17 +47,17 @@ impl FileTable {
         }
     }
 
-    pub(crate) fn get(&self, id: u64) -> Option<&File>
+    pub(crate) fn get(&self, id: FileId) -> Option<&File>
         ensures { option_copied result ≡ row_at self.now id }
     {
-        self.files.get(&id)
+        self.files.get(&id.number())
     }
 
     /// The id of the next file.
-    pub(crate) fn next(&self) -> u64
+    pub(crate) fn next(&self) -> FileId
         ensures { result ≡ self.now.next }
     {
-        self.next
+        FileId::new(self.next)
     }
 
     /// Adds an empty file that is linked.
@@ -80,17 +80,18 @@ impl FileTable {
     /// Writes bytes into a file that is there, unless its end or the sizes of all would be too great.
     pub(crate) fn put(
         &mut self,
-        id: u64,
+        id: FileId,
         at: u64,
         bytes: &[u8],
     ) -> Result<Option<Errno>, AllocError>
+        requires { IsSome (row_at self.old id) }
         ensures ok { IfOk result (λ refused. IfSome (row_at self.old id) (λ file.
             (refused ≡ put_refusal self.old id file at bytes.now)
             × (self.new ≡ put_unless self.old id file at bytes.now refused))) }
         ensures err { OnErr result (self.new ≡ self.old) }
     {
         let Some(file) = self.get(id) else {
-            return Ok(None);
+            unreachable!()
         };
         let Some(end) = at.checked_add(bytes.len() as u64) else {
             return Ok(Some(Errno::Efbig));
@@ -104,7 +105,8 @@ impl FileTable {
     }
 
     /// Has a file that is there be of that size, unless that or the sizes of all would be too great.
-    pub(crate) fn cut(&mut self, id: u64, size: u64) -> Option<Errno>
+    pub(crate) fn cut(&mut self, id: FileId, size: u64) -> Option<Errno>
+        requires { IsSome (row_at self.old id) }
         ensures { IfSome (row_at self.old id) (λ file.
             (result ≡ cut_refusal self.old id file size)
             × (self.new ≡ cut_unless self.old id file size result)) }
@@ -116,13 +118,14 @@ impl FileTable {
         None
     }
 
-    /// Why a file may not come to have that size and that end.
-    fn refusal(&self, id: u64, size: u64, end: u64) -> Option<Errno>
+    /// Why a file that is there may not come to have that size and that end.
+    fn refusal(&self, id: FileId, size: u64, end: u64) -> Option<Errno>
+        requires { IsSome (row_at self.now id) }
         ensures { IfSome (row_at self.now id) (λ file. (new : File) → length new.bytes ≡ size
             → result ≡ refusal end (with_row self.now id new)) }
     {
-        let Some(file) = self.files.get(&id) else {
-            return None;
+        let Some(file) = self.files.get(&id.number()) else {
+            unreachable!()
         };
         let others = self.total - file.bytes.size();
         if end > FILE_MAX {
@@ -134,17 +137,18 @@ impl FileTable {
         None
     }
 
-    /// Writes bytes into a file, which is not refused.
-    fn write(&mut self, id: u64, at: u64, bytes: &[u8]) -> Result<(), AllocError>
-        requires { (file : File) → row_at self.old id ≡ Some file
+    /// Writes bytes into a file that is there, which is not refused.
+    fn write(&mut self, id: FileId, at: u64, bytes: &[u8]) -> Result<(), AllocError>
+        requires there { IsSome (row_at self.old id) }
+        requires allowed { (file : File) → row_at self.old id ≡ Some file
             → put_refusal self.old id file at bytes.now ≡ None }
         ensures ok { OnOk result
             (IfSome (row_at self.old id)
             (λ file. self.new ≡ with_bytes self.old id file at bytes.now)) }
         ensures err { OnErr result (self.new ≡ self.old) }
     {
-        let Some(file) = self.files.get_mut(&id) else {
-            return Ok(());
+        let Some(file) = self.files.get_mut(&id.number()) else {
+            unreachable!()
         };
         let size = file.bytes.size();
         file.bytes.write(self.alloc, at, bytes)?;
@@ -152,48 +156,52 @@ impl FileTable {
         Ok(())
     }
 
-    /// Has a file be of a size that is not refused.
-    fn resize(&mut self, id: u64, size: u64)
-        requires { (file : File) → row_at self.old id ≡ Some file
+    /// Has a file that is there be of a size that is not refused.
+    fn resize(&mut self, id: FileId, size: u64)
+        requires there { IsSome (row_at self.old id) }
+        requires allowed { (file : File) → row_at self.old id ≡ Some file
             → cut_refusal self.old id file size ≡ None }
         ensures { IfSome (row_at self.old id) (λ file. self.new ≡ with_size self.old id file size) }
     {
-        let Some(file) = self.files.get_mut(&id) else {
-            return;
+        let Some(file) = self.files.get_mut(&id.number()) else {
+            unreachable!()
         };
         self.total = self.total - file.bytes.size() + size;
         file.bytes.cut(size);
     }
 
     /// Has a file that is there be empty.
-    pub(crate) fn clear(&mut self, id: u64)
+    pub(crate) fn clear(&mut self, id: FileId)
+        requires { IsSome (row_at self.old id) }
         ensures { IfSome (row_at self.old id)
             (λ file. self.new ≡ with_row self.old id (record file { bytes = [] })) }
     {
-        let Some(file) = self.files.get_mut(&id) else {
-            return;
+        let Some(file) = self.files.get_mut(&id.number()) else {
+            unreachable!()
         };
         self.total -= file.bytes.size();
         file.bytes = Contents::new(self.alloc);
     }
 
-    /// No directory has an entry of that file any more.
-    pub(crate) fn unlink(&mut self, id: u64)
+    /// No directory has an entry of that file any more, which is there.
+    pub(crate) fn unlink(&mut self, id: FileId)
+        requires { IsSome (row_at self.old id) }
         ensures { IfSome (row_at self.old id)
             (λ file. self.new ≡ with_row self.old id (record file { linked = false })) }
     {
-        let Some(file) = self.files.get_mut(&id) else {
-            return;
+        let Some(file) = self.files.get_mut(&id.number()) else {
+            unreachable!()
         };
         file.linked = false;
     }
 
-    /// Frees a file with its pages.
-    pub(crate) fn remove(&mut self, id: u64)
+    /// Frees a file that is there, with its pages.
+    pub(crate) fn remove(&mut self, id: FileId)
+        requires { IsSome (row_at self.old id) }
         ensures { self.new ≡ without_row self.old id }
     {
-        let Some(file) = self.files.remove(&id) else {
-            return;
+        let Some(file) = self.files.remove(&id.number()) else {
+            unreachable!()
         };
         self.total -= file.bytes.size();
     }

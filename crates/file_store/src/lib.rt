@@ -5,13 +5,18 @@ pub use descriptor_operation::{FdAnswer, FdOp, Slot};
 pub use descriptors::Descriptors;
 pub use file_operation::{Access, FileAnswer, FileOp, Mode, Whence};
 pub use files::Files;
-pub use laws::{copies_share, offsets_are_apart, open_files_stay, sizes_stay_within};
+pub use laws::{
+    copies_share, cuts_keep_the_rest, descriptions_have_files, ids_are_new, names_are_given,
+    offsets_are_apart, openings_are_sound, refusals_change_nothing, steps_stay_sound,
+    writes_are_read,
+};
 
 mod contents;
 mod description_table;
 mod descriptor_operation;
 mod descriptors;
 mod file;
+mod file_group;
 mod file_operation;
 mod file_table;
 mod files;

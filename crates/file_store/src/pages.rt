@@ -87,7 +87,7 @@ impl Pages {
             return;
         };
         kept.write(start, piece);
-        if kept.is_zero() {
+        if is_zero(piece) && kept.is_zero() {
             self.pages.remove(&page);
         }
     }
@@ -179,7 +179,12 @@ impl Pages {
         ensures { (k : ℕ) → kept_page self.new k
             ≡ (if nat_lt k first then kept_page self.old k else None) }
     {
-        self.pages.retain(|page, _| *page < first);
+        while let Some((page, _)) = self.pages.last_key_value() {
+            if *page < first {
+                return;
+            }
+            self.pages.pop_last();
+        }
     }
 }
 

@@ -1,7 +1,7 @@
 use Rattle.std.proofs.Common.{refl, ap}
 use Rattle.file_store.specs.declared.descriptor_operation.Slot.{Slot}
 use Rattle.file_store.specs.DescriptorMap.{look_answer}
-use Rattle.file_store.proofs.LawLemmas.{copy_shares, copy_to_shares}
+use Rattle.file_store.proofs.DescriptorLawLemmas.{copy_shares, copy_to_shares}
 use Rattle.file_store.proofs.laws.copies_share.Goals as goal
 
 pub returns : goal.returns

@@ -6,8 +6,8 @@ use Rattle.file_store.specs.Tables.{Table, row_at}
 use Rattle.file_store.proofs.SumLemmas.{summed_other}
 use Rattle.file_store.proofs.file_table.FileTable.clear.Goals as goal
 
-pub invariant_of-self-2 : goal.invariant_of-self-2
-invariant_of-self-2 c =
+pub invariant_of-self : goal.invariant_of-self
+invariant_of-self c =
     let old : Table File = record { entries = c.self.inside.files.entries; next = c.self.inside.next } in
     let was = c.in-Some.file.now in
     let file : File = record { bytes = c.new.result; linked = was.linked } in

@@ -16,8 +16,8 @@ refused files id was at bytes end size found e s h =
 same_file : (a b : File) (found : Option File) → found ≡ Some a → found ≡ Some b → a ≡ b
 same_file a b found ea eb = ap (λ (o : Option File). unwrap_or o a) (sym ea ∙ eb)
 
-pub write-requires : goal.write-requires
-write-requires c = λ file e.
+pub write-requires-clause-allowed : goal.write-requires-clause-allowed
+write-requires-clause-allowed c = λ file e.
     let was = c.in-Some.file.now in
     let there : row_at c.args.self.now c.args.id ≡ Some was = search rules in
     let size = c.max-size.ensures ∙ ap (λ (n : ℕ). max n c.in-Some-checked_add.end) c.size.ensures in

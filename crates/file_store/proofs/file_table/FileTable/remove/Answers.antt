@@ -10,8 +10,8 @@ overflow_sub-self c =
     let there : row_at old c.args.id ≡ Some c.in-Some.file = search rules in
     omega (arith, size_within old c.args.id c.in-Some.file there, c.self.invariant.sum_is, c.size.ensures)
 
-pub invariant_of-self-2 : goal.invariant_of-self-2
-invariant_of-self-2 c =
+pub invariant_of-self : goal.invariant_of-self
+invariant_of-self c =
     let old : Table File = record { entries = c.self.inside.files.entries; next = c.self.inside.next } in
     let there : row_at old c.args.id ≡ Some c.in-Some.file = search rules in
-    rw c.in-Some.ensures.entries (summed_without old c.self.inside.total c.args.id (c.self.inside.total - c.size.result) c.in-Some.file c.self.invariant there (ap (λ n. c.self.inside.total - n) c.size.ensures))
+    rw (c.in-Some.ensures.entries, c.number.ensures) (summed_without old c.self.inside.total c.args.id (c.self.inside.total - c.size.result) c.in-Some.file c.self.invariant there (ap (λ n. c.self.inside.total - n) c.size.ensures))

@@ -10,8 +10,8 @@ use Rattle.file_store.proofs.FileBytesLemmas.{length-resized}
 use Rattle.file_store.proofs.SumLemmas.{summed_other, size_within, not_refused, total_other}
 use Rattle.file_store.proofs.file_table.FileTable.resize.Goals as goal
 
-pub invariant_of-self-2 : goal.invariant_of-self-2
-invariant_of-self-2 c =
+pub invariant_of-self : goal.invariant_of-self
+invariant_of-self c =
     let old : Table File = record { entries = c.self.inside.files.entries; next = c.self.inside.next } in
     let was = c.in-Some.file.now in
     let file : File = record { bytes = c.cut.new.self; linked = was.linked } in
@@ -20,7 +20,7 @@ invariant_of-self-2 c =
     let there_now : row_at c.args.self.now c.args.id ≡ Some was = search rules in
     let entries : (c.get_mut.follows.lender file).entries ≡ set_value (is_at (nat_cmp c.args.id)) old.entries file = search rules in
     let size : length c.cut.new.self ≡ c.args.size = ap (λ (bytes : List ℕ). length bytes) c.cut.ensures ∙ length-resized c.args.size was.bytes in
-    let allowed = not_refused c.args.size (with_size c.args.self.now c.args.id was c.args.size) (c.requires was there_now) in
+    let allowed = not_refused c.args.size (with_size c.args.self.now c.args.id was c.args.size) (c.requires.allowed was there_now) in
     let sum = c.self.invariant.sum_is ∙ ap (λ (t : Table File). total t) c.self.view_is in
     let after = total_other c.args.self.now c.args.id was wanted there_now in
     let within : c.self.inside.total - c.size.result + c.args.size ≤ group_max = omega (arith, allowed.1, sum, after, c.size.ensures, length-resized c.args.size was.bytes, size_within c.args.self.now c.args.id was there_now) in

@@ -20,14 +20,14 @@ invariant_of-self-2 c =
     let there_now : row_at c.args.self.now c.args.id ≡ Some was = search rules in
     let entries : (c.get_mut.follows.lender file).entries ≡ set_value (is_at (nat_cmp c.args.id)) old.entries file = search rules in
     let size : length c.write.new.self ≡ length wanted.bytes = ap (λ (bytes : List ℕ). length bytes) c.in_ok-write.ensures.ok in
-    let allowed = not_refused (c.args.at + length c.args.bytes.now) (with_bytes c.args.self.now c.args.id was c.args.at c.args.bytes.now) (c.requires was there_now) in
+    let allowed = not_refused (c.args.at + length c.args.bytes.now) (with_bytes c.args.self.now c.args.id was c.args.at c.args.bytes.now) (c.requires.allowed was there_now) in
     let sum = c.self.invariant.sum_is ∙ ap (λ (t : Table File). total t) c.self.view_is in
     let after = total_other c.args.self.now c.args.id was wanted there_now in
     let within : c.self.inside.total - c.size-size.result + c.size.result ≤ group_max = omega (arith, allowed.1, sum, after, c.size-size.ensures, c.size.ensures, size, size_within c.args.self.now c.args.id was there_now) in
     rw entries (summed_other old c.self.inside.total c.args.id (c.self.inside.total - c.size-size.result + c.size.result) was file c.self.invariant there (omega (arith, c.size.ensures, c.size-size.ensures)) within)
 
-pub invariant_of-self-in_err-write : goal.invariant_of-self-in_err-write
-invariant_of-self-in_err-write c =
+pub invariant_of-self : goal.invariant_of-self
+invariant_of-self c =
     let old : Table File = record { entries = c.self.inside.files.entries; next = c.self.inside.next } in
     let was = c.in-Some.file.now in
     let file : File = record { bytes = c.write.new.self; linked = was.linked } in

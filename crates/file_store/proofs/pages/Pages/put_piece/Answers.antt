@@ -12,10 +12,10 @@ returns-in_default-clause-written c =
     page_none _ after ∙ zeros_written c.args.start c.args.piece.now c.requires.fits zeros
     ∙ ap (λ (p : List ℕ). take c.args.start p ++ (c.args.piece.now ++ drop (c.args.start + length c.args.piece.now) p)) (sym (page_none _ before))
 
-pub returns-then-is_zero-clause-written : goal.returns-then-is_zero-clause-written
-returns-then-is_zero-clause-written c =
+pub returns-then-is_zero-2-clause-written : goal.returns-then-is_zero-2-clause-written
+returns-then-is_zero-2-clause-written c =
     let before : kept_page c.args.self.now c.args.page ≡ Some c.in-Some.kept.now = search rules in
-    let after : kept_page c.match-remove.self c.args.page ≡ None = search rules in
-    let zeros = sym c.is_zero.ensures ∙ c.if-is_zero.true in
+    let after : kept_page c.remove.new.self.entries c.args.page ≡ None = search rules in
+    let zeros = sym c.is_zero-then-is_zero.ensures ∙ c.if-is_zero-2.true in
     page_none _ after ∙ sym (zero_page_is _ zeros c.write.ensures.size) ∙ c.write.ensures.value
     ∙ ap (λ (p : List ℕ). take c.args.start p ++ (c.args.piece.now ++ drop (c.args.start + length c.args.piece.now) p)) (sym (page_some _ _ before))
