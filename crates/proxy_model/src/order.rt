@@ -30,7 +30,9 @@ pub(crate) fn are_numbered(marks: &[Mark]) -> bool
 /// Whether the job of this index may follow each one before it.
 fn follows_all(jobs: &[Job], index: usize) -> bool
     requires { index < length jobs.now }
-    ensures { IsTrue result ↔ ((n : ℕ) (d : Job) → n < index → MayFollow (slice_index_or jobs.now n d).started (slice_index_or jobs.now index d).started) }
+    ensures { IsTrue result ↔ ((n : ℕ) (d : Job) → n < index
+        → MayFollow (slice_index_or jobs.now n d).started
+        (slice_index_or jobs.now index d).started) }
 {
     for earlier in 0..index {
         if !may_follow(jobs[earlier].started, jobs[index].started) {

@@ -13,8 +13,10 @@ use proxy_laws::Event;
 
 /// Steps by the events in turn, and stops at the first refusal, whose index it gives.
 pub fn run(world: &mut World, events: &[Event]) -> Result<(), (usize, StepRefusal)>
-    ensures ok { OnOk result (LeadsBy CanStep (world_of world.old) events.now (world_of world.new)) }
-    ensures stops { IfErr result (λ at. StopsAt (world_of world.old) events.now at.0 at.1 (world_of world.new)) }
+    ensures ok { OnOk result
+        (LeadsBy CanStep (world_of world.old) events.now (world_of world.new)) }
+    ensures stops { IfErr result
+        (λ at. StopsAt (world_of world.old) events.now at.0 at.1 (world_of world.new)) }
     // Whatever the events, and whether they were accepted.
     ensures sound { Sound (world_of world.old) → Sound (world_of world.new) }
 {

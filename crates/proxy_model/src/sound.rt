@@ -15,7 +15,9 @@ use proxy_laws::OwnerState;
 impl World {
     /// There is a reference for each sender that is not idle, and one for an open owner.
     fn are_refs_counted(&self) -> bool
-        ensures { IsTrue result ↔ RefsAreCounted self.now.senders self.now.refs self.now.owner (world_of self.now).phase }
+        ensures { IsTrue result
+            ↔ RefsAreCounted self.now.senders self.now.refs self.now.owner
+            (world_of self.now).phase }
     {
         let open = u128::from(self.owner == OwnerState::Open);
         u128::from(self.refs) == self.not_idle_count() as u128 + open
@@ -30,7 +32,9 @@ impl World {
 
     /// Each notice that was got, is in the mailbox or is on its way there stands for a mark.
     fn are_notices_few(&self) -> bool
-        ensures { IsTrue result ↔ NoticesAreFew self.now.senders self.now.places self.now.got (world_of self.now).mail (world_of self.now).phase (world_of self.now).sent }
+        ensures { IsTrue result
+            ↔ NoticesAreFew self.now.senders self.now.places self.now.got
+            (world_of self.now).mail (world_of self.now).phase (world_of self.now).sent }
     {
         let notices = u128::from(self.got) + self.notice_count() as u128;
         notices + self.notifying_count() as u128 <= self.put_sum()
@@ -53,7 +57,8 @@ impl World {
     }
 
     fn are_places_sound(&self) -> bool
-        ensures { IsTrue result ↔ ((p : ℕ) → p < self.now.places → IsPlaceSound (world_of self.now) p) }
+        ensures { IsTrue result
+            ↔ ((p : ℕ) → p < self.now.places → IsPlaceSound (world_of self.now) p) }
     {
         (0..self.places).all(|place| self.is_place_sound(place))
     }

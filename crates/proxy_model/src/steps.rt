@@ -82,7 +82,8 @@ impl World {
         ensures err { OnErr result (world_of self.new ≡ world_of self.old) }
         ensures sound { Sound (world_of self.old) → Sound (world_of self.new) }
         // Want of memory alone is free.
-        ensures accepts { CanStep (world_of self.old) event.now → IsOk result ⊎ IsErrOf result refusal.NoMemory }
+        ensures accepts { CanStep (world_of self.old) event.now
+            → IsOk result ⊎ IsErrOf result refusal.NoMemory }
     {
         if let Err(why) = self.check_enabled(event) {
             return Err(StepRefusal::NotEnabled(why));

@@ -30,7 +30,8 @@ pub struct World {
     pub(crate) phases: Vec<Phase>,
     pub(crate) uses: Vec<Row<u64>>,
     pub(crate) looks: Vec<Look>,
-    pub ghost has_places: { HasPlaces places sent.items jobs.items notes.items lives.items turns.items serving.items mail.items },
+    pub ghost has_places: { HasPlaces places sent.items jobs.items notes.items lives.items
+        turns.items serving.items mail.items },
     pub ghost has_senders: { HasSenders senders places phases.items uses.items looks.items },
     pub ghost phases_in_range: { PhasesInRange places phases.items },
     pub ghost looks_in_range: { LooksInRange places looks.items },

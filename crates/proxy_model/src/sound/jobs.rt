@@ -46,7 +46,9 @@ impl World {
     /// Whether the owner started a job of the place under the notice, or is there under it.
     fn uses_notice(&self, notice: u64, place: u32) -> bool
         requires { place < self.now.places }
-        ensures { result ≡ uses_notice notice ((world_of self.now).jobs place) ((world_of self.now).serving place) }
+        ensures { result
+            ≡ uses_notice notice ((world_of self.now).jobs place)
+            ((world_of self.now).serving place) }
     {
         has_notice(self.jobs_at(place), notice) || is_under(notice, self.serving(place))
     }
@@ -66,7 +68,9 @@ impl World {
     fn are_starts_apart(&self, place: u32, other: u32) -> bool
         requires there { place < self.now.places }
         requires other_there { other < self.now.places }
-        ensures { IsTrue result ↔ All (λ job. IsStartApart (world_of self.now) job.started other) ((world_of self.now).jobs place) }
+        ensures { IsTrue result
+            ↔ All (λ job. IsStartApart (world_of self.now) job.started other)
+            ((world_of self.now).jobs place) }
     {
         self.jobs_at(place)
             .iter()
@@ -77,7 +81,8 @@ impl World {
     fn is_phase_apart(&self, place: u32, other: u32) -> bool
         requires there { place < self.now.places }
         requires other_there { other < self.now.places }
-        ensures { IsTrue result ↔ IsPhaseApart (world_of self.now) ((world_of self.now).serving place) other }
+        ensures { IsTrue result
+            ↔ IsPhaseApart (world_of self.now) ((world_of self.now).serving place) other }
     {
         match notice_of(self.serving(place)) {
             Some(notice) => !self.uses_notice(notice, other),
@@ -97,7 +102,8 @@ impl World {
     /// The place shares no notice with another.
     fn is_apart(&self, place: u32) -> bool
         requires { place < self.now.places }
-        ensures { IsTrue result ↔ ((q : ℕ) → q < self.now.places → AreApart (world_of self.now) place q) }
+        ensures { IsTrue result
+            ↔ ((q : ℕ) → q < self.now.places → AreApart (world_of self.now) place q) }
     {
         (0..self.places).all(|other| self.are_apart(place, other))
     }

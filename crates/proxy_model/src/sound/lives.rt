@@ -48,7 +48,8 @@ impl World {
     fn is_only_user(&self, sender: u32, place: u32) -> bool
         requires there { sender < self.now.senders }
         requires place_there { place < self.now.places }
-        ensures { IsTrue result ↔ ((t : ℕ) → t < self.now.senders → IsOneUser (world_of self.now) sender t place) }
+        ensures { IsTrue result
+            ↔ ((t : ℕ) → t < self.now.senders → IsOneUser (world_of self.now) sender t place) }
     {
         (0..self.senders).all(|other| self.is_one_user(sender, other, place))
     }
@@ -69,7 +70,8 @@ impl World {
     /// The phases and looks of all senders fit the place.
     pub(super) fn are_senders_sound(&self, place: u32) -> bool
         requires { place < self.now.places }
-        ensures { IsTrue result ↔ ((s : ℕ) → s < self.now.senders → IsSenderSound (world_of self.now) s place) }
+        ensures { IsTrue result
+            ↔ ((s : ℕ) → s < self.now.senders → IsSenderSound (world_of self.now) s place) }
     {
         (0..self.senders).all(|sender| self.is_sender_sound(sender, place))
     }

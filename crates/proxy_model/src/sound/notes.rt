@@ -14,7 +14,8 @@ impl World {
     fn is_announced(&self, place: u32) -> bool
         requires { place < self.now.places }
         ensures { let w = world_of self.now in IsTrue result
-            ↔ IsAnnounced w.senders w.phase (w.sent place) (w.jobs place) (w.note place) (w.serving place) place }
+            ↔ IsAnnounced w.senders w.phase (w.sent place) (w.jobs place) (w.note place)
+            (w.serving place) place }
     {
         let note = self.note(place);
         self.taken_count(place) >= self.put_count(place)
@@ -38,7 +39,8 @@ impl World {
     fn is_borne_closed(&self, place: u32) -> bool
         requires { place < self.now.places }
         ensures { let w = world_of self.now in IsTrue result
-            ↔ IsBorneClosed (w.sent place) (w.jobs place) (w.mail place) (w.note place) (w.serving place) }
+            ↔ IsBorneClosed (w.sent place) (w.jobs place) (w.mail place) (w.note place)
+            (w.serving place) }
     {
         let serving = self.serving(place);
         let is_got = matches!(serving, Serving::Got(_));
@@ -53,7 +55,8 @@ impl World {
     fn is_borne(&self, place: u32) -> bool
         requires { place < self.now.places }
         ensures { let w = world_of self.now in IsTrue result
-            ↔ IsBorne w.senders w.owner w.phase (w.sent place) (w.jobs place) (w.mail place) (w.note place) (w.serving place) place }
+            ↔ IsBorne w.senders w.owner w.phase (w.sent place) (w.jobs place) (w.mail place)
+            (w.note place) (w.serving place) place }
     {
         match self.owner {
             OwnerState::Closed => self.is_borne_closed(place),

@@ -108,7 +108,8 @@ impl World {
     fn check_conditions(&self, event: &Event) -> Result<(), Why>
         requires { IsThere (world_of self.now) event.now }
         ensures ok { OnOk result (AllHold (conditions (world_of self.now) event.now)) }
-        ensures err { IfErr result (λ why. FailsAt (conditions (world_of self.now) event.now) why.part why.value) }
+        ensures err { IfErr result
+            (λ why. FailsAt (conditions (world_of self.now) event.now) why.part why.value) }
     {
         match *event {
             Event::LoadRefs(s) | Event::Join(s) => expect(1, self.phase(s) == Phase::Idle),
@@ -192,7 +193,8 @@ impl World {
     /// Whether the event is enabled, and if not, why.
     pub(crate) fn check_enabled(&self, event: &Event) -> Result<(), Why>
         ensures ok { OnOk result (Enabled (world_of self.now) event.now) }
-        ensures err { IfErr result (λ why. IsNotEnabled (world_of self.now) event.now why.part why.value) }
+        ensures err { IfErr result
+            (λ why. IsNotEnabled (world_of self.now) event.now why.part why.value) }
     {
         if !self.has(event) {
             return Err(Why { part: 0, value: 0 });

@@ -26,7 +26,8 @@ impl World {
         requires there { sender < self.old.senders }
         requires place_there { place < self.old.places }
         requires room { is_at_last (world_of self.old) (event.CloneUse sender place) ≡ false }
-        ensures { world_of self.new ≡ world_after (world_of self.old) (event.CloneUse sender place) }
+        ensures { world_of self.new
+            ≡ world_after (world_of self.old) (event.CloneUse sender place) }
     {
         let life = self.life(place);
         let count = self.use_count(sender, place);
@@ -37,7 +38,8 @@ impl World {
     pub(super) fn release_use(&mut self, sender: u32, place: u32)
         requires there { sender < self.old.senders }
         requires place_there { place < self.old.places }
-        ensures { world_of self.new ≡ world_after (world_of self.old) (event.ReleaseUse sender place) }
+        ensures { world_of self.new
+            ≡ world_after (world_of self.old) (event.ReleaseUse sender place) }
     {
         let life = self.life(place).saturating_sub(1);
         let count = self.use_count(sender, place).saturating_sub(1);
@@ -59,7 +61,8 @@ impl World {
     pub(super) fn look_note(&mut self, sender: u32, place: u32)
         requires there { sender < self.old.senders }
         requires place_there { place < self.old.places }
-        ensures { world_of self.new ≡ world_after (world_of self.old) (event.LookNote sender place) }
+        ensures { world_of self.new
+            ≡ world_after (world_of self.old) (event.LookNote sender place) }
     {
         let note = self.note(place);
         self.set_look(sender, Look::Saw(place, note));
@@ -68,7 +71,8 @@ impl World {
     pub(super) fn mark_life(&mut self, sender: u32, place: u32)
         requires there { sender < self.old.senders }
         requires place_there { place < self.old.places }
-        ensures { world_of self.new ≡ world_after (world_of self.old) (event.MarkLife sender place) }
+        ensures { world_of self.new
+            ≡ world_after (world_of self.old) (event.MarkLife sender place) }
     {
         let life = life_after_mark(self.look(sender));
         self.set_life(place, life);

@@ -35,7 +35,8 @@ impl World {
 
     pub(super) fn take_job(&mut self, place: u32) -> Result<(), AllocError>
         requires { place < self.old.places }
-        ensures ok { OnOk result (world_of self.new ≡ world_after (world_of self.old) (event.TakeJob place)) }
+        ensures ok { OnOk result
+            (world_of self.new ≡ world_after (world_of self.old) (event.TakeJob place)) }
         ensures err { OnErr result (world_of self.new ≡ world_of self.old) }
     {
         let started = start_under(self.owner, self.serving(place));

@@ -33,7 +33,8 @@ impl World {
     pub(super) fn take_place(&mut self, sender: u32, place: u32)
         requires there { sender < self.old.senders }
         requires place_there { place < self.old.places }
-        ensures { world_of self.new ≡ world_after (world_of self.old) (event.TakePlace (actor.Sender sender) place) }
+        ensures { world_of self.new
+            ≡ world_after (world_of self.old) (event.TakePlace (actor.Sender sender) place) }
     {
         self.set_turn(place, Some(Actor::Sender(sender)));
         self.set_phase(sender, Phase::Holding(place));
@@ -42,7 +43,8 @@ impl World {
     pub(super) fn put(&mut self, sender: u32, place: u32, tag: u64) -> Result<(), AllocError>
         requires there { sender < self.old.senders }
         requires place_there { place < self.old.places }
-        ensures ok { OnOk result (world_of self.new ≡ world_after (world_of self.old) (event.Put sender place tag)) }
+        ensures ok { OnOk result
+            (world_of self.new ≡ world_after (world_of self.old) (event.Put sender place tag)) }
         ensures err { OnErr result (world_of self.new ≡ world_of self.old) }
     {
         let seq = self.mark_count(sender, place);
@@ -54,7 +56,8 @@ impl World {
     pub(super) fn give_place(&mut self, sender: u32, place: u32)
         requires there { sender < self.old.senders }
         requires place_there { place < self.old.places }
-        ensures { world_of self.new ≡ world_after (world_of self.old) (event.GivePlace (actor.Sender sender) place) }
+        ensures { world_of self.new
+            ≡ world_after (world_of self.old) (event.GivePlace (actor.Sender sender) place) }
     {
         let phase = phase_after_give(place, self.phase(sender));
         self.set_turn(place, None);
@@ -64,7 +67,8 @@ impl World {
     pub(super) fn swap_note(&mut self, sender: u32, place: u32)
         requires there { sender < self.old.senders }
         requires place_there { place < self.old.places }
-        ensures { world_of self.new ≡ world_after (world_of self.old) (event.SwapNote sender place) }
+        ensures { world_of self.new
+            ≡ world_after (world_of self.old) (event.SwapNote sender place) }
     {
         let phase = phase_after_swap(place, self.note(place));
         self.set_phase(sender, phase);

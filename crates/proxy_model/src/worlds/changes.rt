@@ -15,14 +15,16 @@ use std::alloc::AllocError;
 impl World {
     pub(crate) fn set_note(&mut self, place: u32, note: Note)
         requires { place < self.old.places }
-        ensures { world_of self.new ≡ record (world_of self.old) { note = upd (world_of self.old).note place note } }
+        ensures { world_of self.new
+            ≡ record (world_of self.old) { note = upd (world_of self.old).note place note } }
     {
         self.notes[place as usize] = note;
     }
 
     pub(crate) fn set_life(&mut self, place: u32, life: u64)
         requires { place < self.old.places }
-        ensures { world_of self.new ≡ record (world_of self.old) { life = upd (world_of self.old).life place life } }
+        ensures { world_of self.new
+            ≡ record (world_of self.old) { life = upd (world_of self.old).life place life } }
     {
         self.lives[place as usize] = life;
     }
@@ -30,14 +32,18 @@ impl World {
     pub(crate) fn set_turn(&mut self, place: u32, turn: Option<Actor>)
         requires there { place < self.old.places }
         requires in_range { (s : ℕ) → turn ≡ Some (actor.Sender s) → s < self.old.senders }
-        ensures { world_of self.new ≡ record (world_of self.old) { turn = upd (world_of self.old).turn place turn } }
+        ensures { world_of self.new
+            ≡ record (world_of self.old) { turn = upd (world_of self.old).turn place turn } }
     {
         self.turns[place as usize] = turn;
     }
 
     pub(crate) fn set_serving(&mut self, place: u32, serving: Serving)
         requires { place < self.old.places }
-        ensures { world_of self.new ≡ record (world_of self.old) { serving = upd (world_of self.old).serving place serving } }
+        ensures { world_of self.new
+            ≡ record (world_of self.old) {
+              serving = upd (world_of self.old).serving place serving;
+            } }
     {
         self.serving[place as usize] = serving;
     }
@@ -45,7 +51,8 @@ impl World {
     /// Puts a notice of the place into the mailbox, or takes it out.
     pub(crate) fn set_mailed(&mut self, place: u32, mailed: bool)
         requires { place < self.old.places }
-        ensures { world_of self.new ≡ record (world_of self.old) { mail = upd (world_of self.old).mail place mailed } }
+        ensures { world_of self.new
+            ≡ record (world_of self.old) { mail = upd (world_of self.old).mail place mailed } }
     {
         self.mail[place as usize] = mailed;
     }
@@ -53,7 +60,8 @@ impl World {
     /// Brings the notice of a messenger in this phase to the mailbox.
     pub(crate) fn add_notice(&mut self, phase: Phase)
         requires { (p : ℕ) → IsTrue (names p phase) → p < self.old.places }
-        ensures { world_of self.new ≡ record (world_of self.old) { mail = mail_after_add phase (world_of self.old).mail } }
+        ensures { world_of self.new
+            ≡ record (world_of self.old) { mail = mail_after_add phase (world_of self.old).mail } }
     {
         match phase {
             Phase::Messenger(place) => self.set_mailed(place, true),
@@ -63,7 +71,11 @@ impl World {
 
     /// Sets the mailbox's note to none, where the mailbox is empty.
     pub(crate) fn clear_mail_note(&mut self)
-        ensures { world_of self.new ≡ record (world_of self.old) { mail_note = mail_note_after_take (world_of self.old).places (world_of self.old).mail (world_of self.old).mail_note } }
+        ensures { world_of self.new
+            ≡ record (world_of self.old) {
+              mail_note = mail_note_after_take (world_of self.old).places
+                  (world_of self.old).mail (world_of self.old).mail_note;
+            } }
     {
         if self.notice_count() == 0 {
             self.mail_note = Note::None;
@@ -73,7 +85,8 @@ impl World {
     pub(crate) fn set_phase(&mut self, sender: u32, phase: Phase)
         requires there { sender < self.old.senders }
         requires in_range { (p : ℕ) → IsTrue (names p phase) → p < self.old.places }
-        ensures { world_of self.new ≡ record (world_of self.old) { phase = upd (world_of self.old).phase sender phase } }
+        ensures { world_of self.new
+            ≡ record (world_of self.old) { phase = upd (world_of self.old).phase sender phase } }
     {
         self.phases[sender as usize] = phase;
     }
@@ -81,7 +94,8 @@ impl World {
     pub(crate) fn set_look(&mut self, sender: u32, look: Look)
         requires there { sender < self.old.senders }
         requires in_range { (p : ℕ) → IsTrue (looks_at p look) → p < self.old.places }
-        ensures { world_of self.new ≡ record (world_of self.old) { look = upd (world_of self.old).look sender look } }
+        ensures { world_of self.new
+            ≡ record (world_of self.old) { look = upd (world_of self.old).look sender look } }
     {
         self.looks[sender as usize] = look;
     }
@@ -89,7 +103,11 @@ impl World {
     pub(crate) fn set_use_count(&mut self, sender: u32, place: u32, count: u64)
         requires there { sender < self.old.senders }
         requires place_there { place < self.old.places }
-        ensures { world_of self.new ≡ record (world_of self.old) { uses = upd (world_of self.old).uses sender (upd ((world_of self.old).uses sender) place count) } }
+        ensures { world_of self.new
+            ≡ record (world_of self.old) {
+              uses = upd (world_of self.old).uses sender
+                  (upd ((world_of self.old).uses sender) place count);
+            } }
     {
         self.uses[sender as usize].set(place, count);
     }
@@ -97,7 +115,11 @@ impl World {
     pub(crate) fn push_mark(&mut self, place: u32, mark: Mark) -> Result<(), AllocError>
         requires there { mark.sender < self.old.senders }
         requires place_there { place < self.old.places }
-        ensures ok { OnOk result (world_of self.new ≡ record (world_of self.old) { sent = upd (world_of self.old).sent place ((world_of self.old).sent place ++ mark ∷ []) }) }
+        ensures ok { OnOk result (world_of self.new
+            ≡ record (world_of self.old) {
+              sent = upd (world_of self.old).sent place
+                  ((world_of self.old).sent place ++ mark ∷ []);
+            }) }
         ensures err { OnErr result (world_of self.new ≡ world_of self.old) }
     {
         self.sent[place as usize].push(mark)
@@ -105,7 +127,11 @@ impl World {
 
     pub(crate) fn push_job(&mut self, place: u32, job: Job) -> Result<(), AllocError>
         requires { place < self.old.places }
-        ensures ok { OnOk result (world_of self.new ≡ record (world_of self.old) { jobs = upd (world_of self.old).jobs place ((world_of self.old).jobs place ++ job ∷ []) }) }
+        ensures ok { OnOk result (world_of self.new
+            ≡ record (world_of self.old) {
+              jobs = upd (world_of self.old).jobs place
+                  ((world_of self.old).jobs place ++ job ∷ []);
+            }) }
         ensures err { OnErr result (world_of self.new ≡ world_of self.old) }
     {
         self.jobs[place as usize].push(job)
@@ -113,7 +139,11 @@ impl World {
 
     pub(crate) fn settle(&mut self, place: u32, n: u64, fate: FateMark)
         requires { place < self.old.places }
-        ensures { world_of self.new ≡ record (world_of self.old) { jobs = upd (world_of self.old).jobs place (with_fate ((world_of self.old).jobs place) n fate) } }
+        ensures { world_of self.new
+            ≡ record (world_of self.old) {
+              jobs = upd (world_of self.old).jobs place
+                  (with_fate ((world_of self.old).jobs place) n fate);
+            } }
     {
         self.jobs[place as usize].settle(n, fate);
     }

@@ -20,7 +20,8 @@ impl World {
 
     /// How many senders are not idle.
     pub(crate) fn not_idle_count(&self) -> usize
-        ensures { result ≡ count_below self.now.senders (λ s. not (is_idle ((world_of self.now).phase s))) }
+        ensures { result
+            ≡ count_below self.now.senders (λ s. not (is_idle ((world_of self.now).phase s))) }
     {
         self.phases
             .iter()
@@ -30,7 +31,8 @@ impl World {
 
     /// How many senders are put or owing at the place.
     pub(crate) fn put_or_owing_count(&self, place: u32) -> usize
-        ensures { result ≡ count_below self.now.senders (λ s. owes_note_at place ((world_of self.now).phase s)) }
+        ensures { result
+            ≡ count_below self.now.senders (λ s. owes_note_at place ((world_of self.now).phase s)) }
     {
         self.phases
             .iter()
@@ -40,7 +42,9 @@ impl World {
 
     /// How many senders are messengers of the place.
     pub(crate) fn messenger_count(&self, place: u32) -> usize
-        ensures { result ≡ count_below self.now.senders (λ s. is_messenger_at place ((world_of self.now).phase s)) }
+        ensures { result
+            ≡ count_below self.now.senders
+            (λ s. is_messenger_at place ((world_of self.now).phase s)) }
     {
         self.phases
             .iter()
@@ -50,7 +54,8 @@ impl World {
 
     /// How many senders have put a job whose notice is not yet in the mailbox.
     pub(crate) fn notifying_count(&self) -> usize
-        ensures { result ≡ count_below self.now.senders (λ s. is_notifying ((world_of self.now).phase s)) }
+        ensures { result
+            ≡ count_below self.now.senders (λ s. is_notifying ((world_of self.now).phase s)) }
     {
         self.phases
             .iter()
@@ -65,7 +70,8 @@ impl World {
 
     /// How many senders are looking at the place.
     pub(crate) fn looker_count(&self, place: u32) -> usize
-        ensures { result ≡ count_below self.now.senders (λ s. looks_at place ((world_of self.now).look s)) }
+        ensures { result
+            ≡ count_below self.now.senders (λ s. looks_at place ((world_of self.now).look s)) }
     {
         self.looks
             .iter()
