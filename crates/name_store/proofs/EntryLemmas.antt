@@ -9,7 +9,7 @@ use Rattle.name_store.specs.declared.operation.NameOp.TheVariants.{Makedir, Addl
 use Rattle.name_store.specs.declared.operation.NameAnswer.TheVariants.{MadeDir, MadeLink, Done, Same}
 use Rattle.name_store.specs.NameTrees.{Tree, Listing, NamesOutcome, dir_at, dir_in, dir_of, empty_in, entry_at, addfile_outcome_at, addlink_outcome_at, is_empty, is_same_entry, makedir_outcome_at, mount_fault, move_answer, move_fault, move_outcome_at, nstep, opening, over_fault, remdir_child_outcome, remdir_outcome_at, remfile_outcome_at, with_mount, with_new_directory, with_new_link, without_entry_at}
 use Rattle.name_store.specs.Sound.{AreApart, IsSound, node_at, node_in, parent_at, parent_of}
-use Rattle.name_store.specs.EntryLaws.{DirectoryMade, DirectoryRemoved, EntryMade, EntryMoved, IsMoved, IsRemoved, LeafMade, LeafRemoved, OpeningMounts, SaysMoved, tree_after}
+use Rattle.name_store.specs.EntryLaws.{DirectoryMade, DirectoryRemoved, EntryMade, EntryMoved, IsMoved, LeafMade, LeafRemoved, OpeningMounts, Removes, SaysMoved, tree_after}
 use Rattle.name_store.proofs.Changes.{past, same_id, same_place, unlinked_parents}
 use Rattle.name_store.proofs.Counted.{both_true, same_bytes}
 use Rattle.name_store.proofs.Entries.{entered_here, entered_other}
@@ -79,14 +79,14 @@ module _ (tree : Tree) (sound : IsSound tree) where
       let t = unlinked_takes tree id name node sound is leaf in
       record { stood = is; entry = record { absent = t.gone; others = t.apart }; parents = λ other. unlinked_parents tree id name other }
 
-  remfile_at : (id : ℕ) (name : List ℕ) (slash : Bool) (node : Node) (found : Option Node) → node_at tree id name ≡ Some node → IsRemoved (remfile_outcome_at tree id name slash found).answer node → LeafRemoved tree (remfile_outcome_at tree id name slash found).tree id name node
-  remfile_at id name slash node None is r = absurd r
-  remfile_at id name slash node (Some (Dir child)) is r = absurd r
-  remfile_at id name slash node (Some (Mount backend)) is r = absurd r
-  remfile_at id name true node (Some (File file)) is r = absurd r
-  remfile_at id name true node (Some (Link link text)) is r = absurd r
-  remfile_at id name false node (Some (File file)) is r = leaf_removed id name node is (ap dir_of r)
-  remfile_at id name false node (Some (Link link text)) is (other, words, r) = leaf_removed id name node is (ap dir_of r)
+  remfile_at : (id : ℕ) (name : List ℕ) (slash : Bool) (directory : Listing) (node : Option Node) → dir_at tree id ≡ Some directory → entry_at directory name ≡ node → Removes tree (remfile_outcome_at tree id name slash node).tree id name (remfile_outcome_at tree id name slash node).answer
+  remfile_at id name slash directory None there h = tt
+  remfile_at id name slash directory (Some (Dir child)) there h = tt
+  remfile_at id name slash directory (Some (Mount backend)) there h = tt
+  remfile_at id name true directory (Some (File file)) there h = tt
+  remfile_at id name true directory (Some (Link link text)) there h = tt
+  remfile_at id name false directory (Some (File file)) there h = leaf_removed id name (File file) (stood tree sound id name directory (File file) there h) refl
+  remfile_at id name false directory (Some (Link link text)) there h = (link, text, leaf_removed id name (Link link text) (stood tree sound id name directory (Link link text) there h) refl)
 
   emptied : (id : ℕ) (name : List ℕ) (child : ℕ) (empty : Bool) → node_at tree id name ≡ Some (Dir child) → is_empty (dir_at tree child) ≡ empty → (remdir_child_outcome tree id name child empty).answer ≡ Done → DirectoryRemoved tree (remdir_child_outcome tree id name child empty).tree id name
   emptied id name child false is h e = cc
@@ -123,10 +123,10 @@ addfile_enters tree id name file sound =
     in_there (λ o. o.answer ≡ Done → LeafMade tree o.tree id name (File file)) tree (dir_at tree id) _ (λ e. cc)
     (λ there is. addfile_at tree sound id name file there (entry_at there name) is refl)
 
-pub remfile_removes : (tree : Tree) (id : ℕ) (name : List ℕ) (slash : Bool) (node : Node) → IsSound tree → node_at tree id name ≡ Some node → IsRemoved (nstep tree (Remfile id name slash)).answer node → LeafRemoved tree (nstep tree (Remfile id name slash)).tree id name node
-remfile_removes tree id name slash node sound here =
-    in_there (λ o. IsRemoved o.answer node → LeafRemoved tree o.tree id name node) tree (dir_at tree id) _ (λ r. absurd r)
-    (λ there is. remfile_at tree sound id name slash node (entry_at there name) here)
+pub remfile_removes : (tree : Tree) (id : ℕ) (name : List ℕ) (slash : Bool) → IsSound tree → Removes tree (nstep tree (Remfile id name slash)).tree id name (nstep tree (Remfile id name slash)).answer
+remfile_removes tree id name slash sound =
+    in_there (λ o. Removes tree o.tree id name o.answer) tree (dir_at tree id) _ tt
+    (λ there is. remfile_at tree sound id name slash there (entry_at there name) is refl)
 
 pub remdir_removes : (tree : Tree) (id : ℕ) (name : List ℕ) → IsSound tree → (nstep tree (Remdir id name)).answer ≡ Done → DirectoryRemoved tree (nstep tree (Remdir id name)).tree id name
 remdir_removes tree id name sound =

@@ -76,15 +76,14 @@ AddlinkMakes = (tree : Tree) (id : ℕ) (name text : List ℕ) (made : ℕ) → 
 abbrev pub AddfileEnters : Type 0
 AddfileEnters = (tree : Tree) (id : ℕ) (name : List ℕ) (file : ℕ) → IsSound tree → (nstep tree (Addfile id name file)).answer ≡ Done → LeafMade tree (nstep tree (Addfile id name file)).tree id name (File file)
 
--- the answer says what was removed
-abbrev pub IsRemoved : NameAnswer → Node → Type 0
-IsRemoved (RemovedFile file) node = node ≡ File file
-IsRemoved RemovedLink node = (link : ℕ) × (text : List ℕ) × (node ≡ Link link text)
-IsRemoved answer node = ⊥
+-- what the answer says was removed, that file or some link, stood under the name and was removed
+abbrev pub Removes : Tree → Tree → ℕ → List ℕ → NameAnswer → Type 0
+Removes old new id name (RemovedFile file) = LeafRemoved old new id name (File file)
+Removes old new id name RemovedLink = (link : ℕ) × (text : List ℕ) × LeafRemoved old new id name (Link link text)
+Removes old new id name answer = Unit {0}
 
--- whatever `remfile` says that it removed was removed
 abbrev pub RemfileRemoves : Type 0
-RemfileRemoves = (tree : Tree) (id : ℕ) (name : List ℕ) (slash : Bool) (node : Node) → IsSound tree → node_at tree id name ≡ Some node → IsRemoved (nstep tree (Remfile id name slash)).answer node → LeafRemoved tree (nstep tree (Remfile id name slash)).tree id name node
+RemfileRemoves = (tree : Tree) (id : ℕ) (name : List ℕ) (slash : Bool) → IsSound tree → Removes tree (nstep tree (Remfile id name slash)).tree id name (nstep tree (Remfile id name slash)).answer
 
 abbrev pub RemdirRemoves : Type 0
 RemdirRemoves = (tree : Tree) (id : ℕ) (name : List ℕ) → IsSound tree → (nstep tree (Remdir id name)).answer ≡ Done → DirectoryRemoved tree (nstep tree (Remdir id name)).tree id name
