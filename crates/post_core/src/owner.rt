@@ -48,7 +48,7 @@ pub struct Got<J: Meant> {
 pub struct Exec<J: Meant> {
     pub(crate) hold: OwnerHold<J>,
     pub(crate) place: u32,
-    // What starts the jobs that it takes.
+    /// What starts the jobs that it takes.
     pub(crate) start: Started,
     ghost is_exec: { IsOwnerAt place (serving_of start)
         (starts_of hold.jobs.items) (counts_of hold.jobs.items) hold.got hold.seat.me.0 },

@@ -23,7 +23,7 @@ pub struct Post<J: Meant> {
     pub(crate) target: u32,
     pub(crate) senders: u32,
     pub(crate) places: u32,
-    // Wakes the owner where it parks.
+    /// Wakes the owner where it parks.
     pub(crate) waker: Unparker,
     ghost key: { table.shared.key
         ≡ record { target = target; senders = senders; places = places } },
