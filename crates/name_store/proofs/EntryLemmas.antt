@@ -1,13 +1,19 @@
 -- What operations do to entries, for the laws of specs/EntryLaws.antt.
-use Rattle.std.proofs.Common.{◌≡◌, ◌↔◌, ℕ, ◌==◌, zero, suc, Bool, true, false, inl, inr, List, [], ◌∷◌, ◌++◌, length, nat_eq, fold, Option, None, Some, refl, sym, ap, subst, ◌∙◌, arith}
+use Rattle.std.proofs.Common.{◌≡◌, ◌↔◌, ℕ, ◌==◌, zero, suc, Bool, true, false, inl, inr, List, [], ◌∷◌, ◌++◌, length, take, drop, nat_eq, fold, Option, None, Some, refl, sym, ap, subst, ◌∙◌, arith}
 use Rattle.std.proofs.lemmas.Bool.Decides.{nat_tests}
 use Rattle.std.specs.Cmp.Lexicographic.{pointwise}
+use Rattle.std.specs.List.{AllByRecursion}
+use Rattle.std.specs.List.Sorted.{IsStrictlySortedBy}
+use Rattle.std.specs.Map.{keys_of}
+use Rattle.std.specs.declared.cmp.Ordering.TheVariants.{Less}
+use Rattle.std.proofs.lemmas.Map.Keys.{sorted_tail}
+use Rattle.wf_core.specs.Limits.{list_max}
 use Rattle.name_store.specs.declared.operation.Node.{Node}
 use Rattle.name_store.specs.declared.operation.Node.TheVariants.{Dir, Link, File, Mount}
 use Rattle.name_store.specs.declared.operation.NameOp.{NameOp}
-use Rattle.name_store.specs.declared.operation.NameOp.TheVariants.{Makedir, Addlink, Addfile, Remfile, Remdir, Move}
-use Rattle.name_store.specs.declared.operation.NameAnswer.TheVariants.{MadeDir, MadeLink, Done, Same}
-use Rattle.name_store.specs.NameTrees.{Tree, Listing, NamesOutcome, dir_at, dir_in, dir_of, empty_in, entry_at, addfile_outcome_at, addlink_outcome_at, is_empty, is_same_entry, makedir_outcome_at, mount_fault, move_answer, move_fault, move_outcome_at, nstep, opening, over_fault, remdir_child_outcome, remdir_outcome_at, remfile_outcome_at, with_mount, with_new_directory, with_new_link, without_entry_at}
+use Rattle.name_store.specs.declared.operation.NameOp.TheVariants.{Makedir, Addlink, Addfile, Remfile, Remdir, Move, List as ListOp}
+use Rattle.name_store.specs.declared.operation.NameAnswer.TheVariants.{MadeDir, MadeLink, Done, Same, Names}
+use Rattle.name_store.specs.NameTrees.{Tree, Listing, NamesOutcome, byte_order, dir_at, dir_in, dir_of, empty_in, entry_at, addfile_outcome_at, addlink_outcome_at, is_empty, is_same_entry, makedir_outcome_at, mount_fault, move_answer, move_fault, move_outcome_at, names_from, nstep, opening, over_fault, remdir_child_outcome, remdir_outcome_at, remfile_outcome_at, with_mount, with_new_directory, with_new_link, without_entry_at}
 use Rattle.name_store.specs.Sound.{AreApart, IsSound, node_at, node_in, parent_at, parent_of}
 use Rattle.name_store.specs.EntryLaws.{DirectoryMade, DirectoryRemoved, EntryMade, EntryMoved, IsMoved, LeafMade, LeafRemoved, OpeningMounts, Removes, SaysMoved, tree_after}
 use Rattle.name_store.proofs.Changes.{past, same_id, same_place, unlinked_parents}
@@ -209,6 +215,35 @@ module _ (tree : Tree) (from : ℕ) (name : List ℕ) (to : ℕ) (new_name : Lis
       in_there One tree (dir_at tree from) _ (λ e. cc) (λ source here.
       in_there One tree (dir_at tree to) _ (λ e. cc) (λ target there.
       one_at (entry_at source name) (entry_at target new_name)))
+
+-- lists are in order
+
+sorted_none : IsStrictlySortedBy byte_order []
+unfolding IsStrictlySortedBy
+sorted_none = tt
+
+sorted_drop : (count : ℕ) (names : List (List ℕ)) → IsStrictlySortedBy byte_order names → IsStrictlySortedBy byte_order (drop count names)
+sorted_drop zero names sorted = sorted
+sorted_drop (suc count) [] sorted = sorted
+sorted_drop (suc count) (name ∷ names) sorted = sorted_drop count names (sorted_tail byte_order name names sorted)
+
+below_take : (low : List ℕ) (count : ℕ) (names : List (List ℕ)) → AllByRecursion (λ other. byte_order low other ≡ Less) names → AllByRecursion (λ other. byte_order low other ≡ Less) (take count names)
+below_take low zero names below = tt
+below_take low (suc count) [] below = tt
+below_take low (suc count) (name ∷ names) below = (below.0, below_take low count names below.1)
+
+sorted_take : (count : ℕ) (names : List (List ℕ)) → IsStrictlySortedBy byte_order names → IsStrictlySortedBy byte_order (take count names)
+unfolding IsStrictlySortedBy
+sorted_take zero names sorted = tt
+sorted_take (suc count) [] sorted = tt
+sorted_take (suc count) (name ∷ names) sorted = (below_take name count names sorted.0, sorted_take count names sorted.1)
+
+pub lists_are_in_order : (tree : Tree) (id start : ℕ) (names : List (List ℕ)) → IsSound tree → (nstep tree (ListOp id start)).answer ≡ Names names → IsStrictlySortedBy byte_order names
+lists_are_in_order tree id start names sound =
+    in_there (λ o. o.answer ≡ Names names → IsStrictlySortedBy byte_order names) tree (dir_at tree id) _ (λ e. cc) (λ there is e.
+    (let same : names_from there start ≡ names = cc in
+    subst (λ ns. IsStrictlySortedBy byte_order ns) same
+    (sorted_take list_max (drop start (keys_of there.entries)) (sorted_drop start (keys_of there.entries) (sound.names id there is)))))
 
 -- mounts stay
 

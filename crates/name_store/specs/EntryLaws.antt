@@ -1,13 +1,14 @@
 -- Laws of the definitions, which say what a user may conclude of the entries that operations make, remove and move:
 -- POSIX.1-2017, XSH mkdir(), symlink(), open() with O_CREAT, unlink(), rmdir() and rename().
 use Rattle.std.specs.Prelude.{◌≡◌, ◌≢◌, ◌↔◌, ℕ, Bool, List, [], ◌∷◌, ◌++◌, Option, None, Some, fold}
+use Rattle.std.specs.List.Sorted.{IsStrictlySortedBy}
 use Rattle.name_store.specs.declared.operation.Node.{Node}
 use Rattle.name_store.specs.declared.operation.Node.TheVariants.{Dir, Link, File, Mount}
 use Rattle.name_store.specs.declared.operation.NameOp.{NameOp}
-use Rattle.name_store.specs.declared.operation.NameOp.TheVariants.{Makedir, Addlink, Addfile, Remfile, Remdir, Move}
+use Rattle.name_store.specs.declared.operation.NameOp.TheVariants.{Makedir, Addlink, Addfile, Remfile, Remdir, Move, List as ListOp}
 use Rattle.name_store.specs.declared.operation.NameAnswer.{NameAnswer}
-use Rattle.name_store.specs.declared.operation.NameAnswer.TheVariants.{MadeDir, MadeLink, Done, RemovedFile, RemovedLink, Same, Over, Moved}
-use Rattle.name_store.specs.NameTrees.{Tree, dir_at, empty_in, nstep, opening}
+use Rattle.name_store.specs.declared.operation.NameAnswer.TheVariants.{MadeDir, MadeLink, Done, RemovedFile, RemovedLink, Same, Over, Moved, Names}
+use Rattle.name_store.specs.NameTrees.{Tree, byte_order, dir_at, empty_in, nstep, opening}
 use Rattle.name_store.specs.Sound.{AreApart, IsSound, node_at, parent_at}
 
 -- each entry of each directory stays as it was, but for that name in that directory
@@ -106,6 +107,10 @@ MoveMoves = (tree : Tree) (from : ℕ) (name : List ℕ) (to : ℕ) (new_name : 
 -- `same` is answered only where both names are one entry
 abbrev pub SameIsOneEntry : Type 0
 SameIsOneEntry = (tree : Tree) (from : ℕ) (name : List ℕ) (to : ℕ) (new_name : List ℕ) (slash : Bool) → (nstep tree (Move from name to new_name slash)).answer ≡ Same → (from ≡ to) × (name ≡ new_name)
+
+-- the names of a list rise in the order of their bytes, so none stands twice
+abbrev pub ListsAreInOrder : Type 0
+ListsAreInOrder = (tree : Tree) (id start : ℕ) (names : List (List ℕ)) → IsSound tree → (nstep tree (ListOp id start)).answer ≡ Names names → IsStrictlySortedBy byte_order names
 
 -- the tree after operations, one after another
 abbrev pub tree_after : Tree → List NameOp → Tree

@@ -92,7 +92,7 @@ impl Directories {
         false
     }
 
-    /// Enters a node in a directory under that name, in the place of what is there.
+    /// Enters a node in a directory, where there is one, under that name, in the place of what is there.
     pub(crate) fn enter(&mut self, id: DirId, name: Name, node: Node) -> Result<(), AllocError>
         ensures ok { OnOk result (self.new ≡ with_entry_at self.old id name node) }
         ensures err { OnErr result (self.new ≡ self.old) }
@@ -104,7 +104,7 @@ impl Directories {
         enter_slot(&mut self.slots[index], name, node)
     }
 
-    /// Takes an entry out of a directory.
+    /// Takes an entry out of a directory, where there is one.
     pub(crate) fn unlink(&mut self, id: DirId, name: &Name)
         ensures { self.new ≡ without_entry_at self.old id name.now }
     {

@@ -1,6 +1,6 @@
 //! What a user may conclude from the definitions. The functions do nothing: each clause is a law.
 
-ghost use Rattle.name_store.specs.EntryLaws.{AddfileEnters, AddlinkMakes, MakedirMakes, MountsStay, MoveMoves, OpeningsHaveTheirMounts, RemdirRemoves, RemfileRemoves, SameIsOneEntry};
+ghost use Rattle.name_store.specs.EntryLaws.{ListsAreInOrder, AddfileEnters, AddlinkMakes, MakedirMakes, MountsStay, MoveMoves, OpeningsHaveTheirMounts, RemdirRemoves, RemfileRemoves, SameIsOneEntry};
 ghost use Rattle.name_store.specs.IdLaws.{IdsAreNew, IdsRise, InsideIsClimbing};
 ghost use Rattle.name_store.specs.Laws.{LinesNameEachOnce, OpeningsAreSound, RefusalsChangeNothing, StepsStaySound};
 
@@ -83,4 +83,9 @@ pub fn ids_rise()
 /// A directory is inside another, as `move` tests it, exactly where climbing leads from the one to the other.
 pub fn inside_is_climbing()
     ensures { InsideIsClimbing }
+{}
+
+/// The names of a list rise in the order of their bytes.
+pub fn lists_are_in_order()
+    ensures { ListsAreInOrder }
 {}

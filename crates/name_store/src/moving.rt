@@ -57,9 +57,8 @@ impl Directories {
     {
         match node {
             Node::Mount(_) => Some(Errno::Ebusy),
-            Node::File(_) | Node::Link(..) if slash => Some(Errno::Enotdir),
-            Node::Dir(id) if self.is_inside(*id, to) => Some(Errno::Einval),
-            Node::File(_) | Node::Link(..) | Node::Dir(_) => None,
+            Node::File(_) | Node::Link(..) => slash.then_some(Errno::Enotdir),
+            Node::Dir(id) => self.is_inside(*id, to).then_some(Errno::Einval),
         }
     }
 
