@@ -17,7 +17,7 @@ use Rattle.file_store.specs.FileBytes.{part}
 use Rattle.file_store.specs.FileForms.{IsForm, AreOfRead}
 use Rattle.file_store.proofs.FileBytesLemmas.{length-part}
 use Rattle.file_store.specs.Tables.{Table, without_row, with_row}
-use Rattle.file_store.specs.FileGroups.{Group, FilesOutcome, fstep, outcome_of, file_at, description_at, open_file_at, open_file_of, open_file_with, is_open, total, make_outcome, attach_outcome, with_description, with_files, with_offset, files_after_truncation, files_after_unlink, files_after_sweep, sizeof_answer, release_outcome, read_outcome, read_outcome_on, readat_answer, readat_answer_from, write_outcome, write_outcome_on, writeat_outcome, writeat_outcome_from, write_offset, with_bytes, put_refusal, refusal, unless_refused, seek_outcome, seek_outcome_to, seek_base, seek_offset, natural, cut_outcome, cut_outcome_to, cut_refusal, with_size, size_answer, can_read, can_write}
+use Rattle.file_store.specs.FileGroups.{Group, FilesOutcome, fstep, outcome_of, file_at, description_at, on_open, open_file_at, open_file_of, open_file_with, is_open, total, make_outcome, attach_outcome, with_description, with_files, with_offset, files_after_truncation, files_after_unlink, files_after_sweep, sizeof_answer, release_outcome, read_outcome, read_outcome_on, readat_outcome, readat_answer_from, write_outcome, write_outcome_on, writeat_outcome, writeat_outcome_from, write_offset, with_bytes, put_refusal, refusal, unless_refused, seek_outcome, seek_outcome_to, seek_base, seek_offset, natural, cut_outcome, cut_outcome_to, cut_refusal, with_size, size_outcome, can_read, can_write}
 
 -- a description and its file are there
 pub record Opened (group : Group) (id : ℕ) (description : Description) (file : File) : Type 0 where
@@ -68,6 +68,10 @@ zero_is n t = sym ((Decides-eqb n 0).0 t)
 refused : (P : Option Errno → Type 0) (end : ℕ) (files : Table File) → P (Some Efbig) → P (Some Enospc) → P None → P (refusal end files)
 refused P end files big full none = chosen P (ltb file_max end) (Some Efbig) (cond (ltb group_max (total files)) (Some Enospc) None) (λ t. big) (λ t. chosen P (ltb group_max (total files)) (Some Enospc) None (λ t. full) (λ t. none))
 
+-- what is done by a description, by whether it is there
+pub on_opened : (group : Group) (id : ℕ) (P : FilesOutcome → Type 0) (done : Description → File → FilesOutcome) → P (outcome_of group (answer.Fault Ebadf)) → ((description : Description) (file : File) → Opened group id description file → P (done description file)) → P (on_open group done (open_file_at group id))
+on_opened group id P done none some = opened group id (λ (o : Option (Description × File)). P (on_open group done o)) none some
+
 module _ (group : Group) (P : FileOp → FilesOutcome → Type 0) (ways : Ways group P) where
   unless : (o : FileOp) (end : ℕ) (files : Table File) (done : FilesOutcome) → IsForm o (answer.Fault Efbig) → IsForm o (answer.Fault Enospc) → (refusal end files ≡ None → P o done) → P o (unless_refused group (refusal end files) done)
   unless o end files done big full go =
@@ -109,20 +113,20 @@ module _ (group : Group) (P : FileOp → FilesOutcome → Type 0) (ways : Ways g
     by_file None e = ways.released id description is (λ file there unlinked. absurd (false≢true (ap is_some (sym e ∙ there))))
     by_file (Some file) e = by_flags file file.linked (is_open (without_row group.descriptions id) description.file) e refl refl
 
-  read_step : (id count : ℕ) → P (op.Read id count) (read_outcome group id count (open_file_at group id))
-  read_step id count = opened group id (λ (o : Option (Description × File)). P (op.Read id count) (read_outcome group id count o)) (ways.same (op.Read id count) (answer.Fault Ebadf) refl) (λ description file there.
+  read_step : (id count : ℕ) → P (op.Read id count) (on_open group (read_outcome group id count) (open_file_at group id))
+  read_step id count = on_opened group id (P (op.Read id count)) (read_outcome group id count) (ways.same (op.Read id count) (answer.Fault Ebadf) refl) (λ description file there.
       chosen (P (op.Read id count)) (can_read description.mode.access) (read_outcome_on group id description (part file.bytes description.offset (min count read_max))) (outcome_of group (answer.Fault Ebadf)) (λ t. ways.read id count description file there) (λ t. ways.same (op.Read id count) (answer.Fault Ebadf) refl))
 
   readat_from : (id count : ℕ) (offset : ℤ) (file : File) (at : Option ℕ) → P (op.Readat id count offset) (outcome_of group (readat_answer_from file count at))
   readat_from id count offset file None = ways.same (op.Readat id count offset) (answer.Fault Einval) (inr refl)
   readat_from id count offset file (Some at) = ways.same (op.Readat id count offset) (answer.Bytes (part file.bytes at (min count read_max))) (of_read file.bytes at count)
 
-  readat_step : (id count : ℕ) (offset : ℤ) → P (op.Readat id count offset) (outcome_of group (readat_answer count offset (open_file_at group id)))
-  readat_step id count offset = opened group id (λ (o : Option (Description × File)). P (op.Readat id count offset) (outcome_of group (readat_answer count offset o))) (ways.same (op.Readat id count offset) (answer.Fault Ebadf) (inl refl)) (λ description file there.
+  readat_step : (id count : ℕ) (offset : ℤ) → P (op.Readat id count offset) (on_open group (readat_outcome group count offset) (open_file_at group id))
+  readat_step id count offset = on_opened group id (P (op.Readat id count offset)) (readat_outcome group count offset) (ways.same (op.Readat id count offset) (answer.Fault Ebadf) (inl refl)) (λ description file there.
       chosen (λ (a : FileAnswer). P (op.Readat id count offset) (outcome_of group a)) (can_read description.mode.access) (readat_answer_from file count (natural offset)) (answer.Fault Ebadf) (λ t. readat_from id count offset file (natural offset)) (λ t. ways.same (op.Readat id count offset) (answer.Fault Ebadf) (inl refl)))
 
-  write_step : (id : ℕ) (bytes : List ℕ) → P (op.Write id bytes) (write_outcome group id bytes (open_file_at group id))
-  write_step id bytes = opened group id (λ (o : Option (Description × File)). P (op.Write id bytes) (write_outcome group id bytes o)) (ways.same (op.Write id bytes) (answer.Fault Ebadf) (inl refl)) (λ description file there.
+  write_step : (id : ℕ) (bytes : List ℕ) → P (op.Write id bytes) (on_open group (write_outcome group id bytes) (open_file_at group id))
+  write_step id bytes = on_opened group id (P (op.Write id bytes)) (write_outcome group id bytes) (ways.same (op.Write id bytes) (answer.Fault Ebadf) (inl refl)) (λ description file there.
       let at = write_offset description file in
       let done : FilesOutcome = record { group = with_offset (with_files group (with_bytes group.files description.file file at bytes)) id description (at + length bytes); answer = answer.Count (length bytes) } in
       chosen (P (op.Write id bytes)) (can_write description.mode.access) (cond (length bytes == 0) (outcome_of group (answer.Count 0)) (write_outcome_on group id description file at bytes)) (outcome_of group (answer.Fault Ebadf))
@@ -135,8 +139,8 @@ module _ (group : Group) (P : FileOp → FilesOutcome → Type 0) (ways : Ways g
       let done : FilesOutcome = record { group = with_files group (with_bytes group.files description.file file at bytes); answer = answer.Count (length bytes) } in
       chosen (P (op.Writeat id bytes offset)) (length bytes == 0) (outcome_of group (answer.Count 0)) (unless_refused group (put_refusal group.files description.file file at bytes) done) (λ e. ways.same (op.Writeat id bytes offset) (answer.Count 0) (zero_is (length bytes) e)) (λ e. unless (op.Writeat id bytes offset) (at + length bytes) (with_bytes group.files description.file file at bytes) done (inr (inr (inl refl))) (inr (inr (inr refl))) (ways.wrote_at id bytes offset at description file there is e))
 
-  writeat_step : (id : ℕ) (bytes : List ℕ) (offset : ℤ) → P (op.Writeat id bytes offset) (writeat_outcome group bytes offset (open_file_at group id))
-  writeat_step id bytes offset = opened group id (λ (o : Option (Description × File)). P (op.Writeat id bytes offset) (writeat_outcome group bytes offset o)) (ways.same (op.Writeat id bytes offset) (answer.Fault Ebadf) (inl refl)) (λ description file there.
+  writeat_step : (id : ℕ) (bytes : List ℕ) (offset : ℤ) → P (op.Writeat id bytes offset) (on_open group (writeat_outcome group bytes offset) (open_file_at group id))
+  writeat_step id bytes offset = on_opened group id (P (op.Writeat id bytes offset)) (writeat_outcome group bytes offset) (ways.same (op.Writeat id bytes offset) (answer.Fault Ebadf) (inl refl)) (λ description file there.
       chosen (P (op.Writeat id bytes offset)) (can_write description.mode.access) (writeat_outcome_from group description.file file bytes (natural offset)) (outcome_of group (answer.Fault Ebadf)) (λ t. writeat_from id bytes offset description file there (natural offset) refl) (λ t. ways.same (op.Writeat id bytes offset) (answer.Fault Ebadf) (inl refl)))
 
   seek_to : (id : ℕ) (offset : ℤ) (whence : Whence) (description : Description) (file : File) → Opened group id description file → (at : Option ℕ) → P (op.Seek id offset whence) (seek_outcome_to group id description (seek_offset at))
@@ -144,8 +148,8 @@ module _ (group : Group) (P : FileOp → FilesOutcome → Type 0) (ways : Ways g
   seek_to id offset whence description file there (Some at) =
       chosen (λ (r : Result ℕ Errno). P (op.Seek id offset whence) (seek_outcome_to group id description r)) (ltb offset_max at) (Err Eoverflow) (Ok at) (λ t. ways.same (op.Seek id offset whence) (answer.Fault Eoverflow) (inr (inr refl))) (λ t. ways.sought id offset whence at description file there (ltb-false offset_max at t))
 
-  seek_step : (id : ℕ) (offset : ℤ) (whence : Whence) → P (op.Seek id offset whence) (seek_outcome group id offset whence (open_file_at group id))
-  seek_step id offset whence = opened group id (λ (o : Option (Description × File)). P (op.Seek id offset whence) (seek_outcome group id offset whence o)) (ways.same (op.Seek id offset whence) (answer.Fault Ebadf) (inl refl)) (λ description file there.
+  seek_step : (id : ℕ) (offset : ℤ) (whence : Whence) → P (op.Seek id offset whence) (on_open group (seek_outcome group id offset whence) (open_file_at group id))
+  seek_step id offset whence = on_opened group id (P (op.Seek id offset whence)) (seek_outcome group id offset whence) (ways.same (op.Seek id offset whence) (answer.Fault Ebadf) (inl refl)) (λ description file there.
       seek_to id offset whence description file there (natural (pos (seek_base whence description file) +ℤ offset)))
 
   cut_to : (id : ℕ) (size : ℤ) (description : Description) (file : File) → Opened group id description file → (n : Option ℕ) → natural size ≡ n → P (op.Cut id size) (cut_outcome_to group description.file file n)
@@ -153,12 +157,12 @@ module _ (group : Group) (P : FileOp → FilesOutcome → Type 0) (ways : Ways g
   cut_to id size description file there (Some n) is =
       unless (op.Cut id size) n (with_size group.files description.file file n) (record { group = with_files group (with_size group.files description.file file n); answer = answer.Done }) (inr (inr (inl refl))) (inr (inr (inr refl))) (ways.cut id size n description file there is)
 
-  cut_step : (id : ℕ) (size : ℤ) → P (op.Cut id size) (cut_outcome group size (open_file_at group id))
-  cut_step id size = opened group id (λ (o : Option (Description × File)). P (op.Cut id size) (cut_outcome group size o)) (ways.same (op.Cut id size) (answer.Fault Ebadf) (inl refl)) (λ description file there.
+  cut_step : (id : ℕ) (size : ℤ) → P (op.Cut id size) (on_open group (cut_outcome group size) (open_file_at group id))
+  cut_step id size = on_opened group id (P (op.Cut id size)) (cut_outcome group size) (ways.same (op.Cut id size) (answer.Fault Ebadf) (inl refl)) (λ description file there.
       chosen (P (op.Cut id size)) (can_write description.mode.access) (cut_outcome_to group description.file file (natural size)) (outcome_of group (answer.Fault Einval)) (λ t. cut_to id size description file there (natural size) refl) (λ t. ways.same (op.Cut id size) (answer.Fault Einval) (inr (inl refl))))
 
-  size_step : (id : ℕ) → P (op.Size id) (outcome_of group (size_answer (open_file_at group id)))
-  size_step id = opened group id (λ (o : Option (Description × File)). P (op.Size id) (outcome_of group (size_answer o))) (ways.same (op.Size id) (answer.Fault Ebadf) refl) (λ description file there.
+  size_step : (id : ℕ) → P (op.Size id) (on_open group (size_outcome group) (open_file_at group id))
+  size_step id = on_opened group id (P (op.Size id)) (size_outcome group) (ways.same (op.Size id) (answer.Fault Ebadf) refl) (λ description file there.
       ways.size (op.Size id) description.file file (λ n low. low) there.of_file)
 
   -- each step goes one of the ways

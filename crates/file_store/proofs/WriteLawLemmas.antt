@@ -17,7 +17,7 @@ use Rattle.file_store.specs.declared.file_operation.FileAnswer.{FileAnswer}
 use Rattle.file_store.specs.declared.file_operation.FileAnswer.TheVariants as answer
 use Rattle.file_store.specs.FileBytes.{part, with_bytes_at, with_length}
 use Rattle.file_store.specs.Tables.{Table, row_at, with_row}
-use Rattle.file_store.specs.FileGroups.{Group, FilesOutcome, outcome_of, fstep, file_at, description_at, open_file_at, open_file_of, open_file_with, attach_outcome, with_files, with_offset, with_description, with_bytes, with_size, put_refusal, cut_refusal, unless_refused, write_offset, write_outcome, write_outcome_on, writeat_outcome, writeat_outcome_from, readat_answer, readat_answer_from, cut_outcome, cut_outcome_to, can_read, can_write, natural}
+use Rattle.file_store.specs.FileGroups.{Group, FilesOutcome, outcome_of, fstep, file_at, description_at, on_open, open_file_at, open_file_of, open_file_with, attach_outcome, with_files, with_offset, with_description, with_bytes, with_size, put_refusal, cut_refusal, unless_refused, write_offset, write_outcome, write_outcome_on, writeat_outcome, writeat_outcome_from, readat_outcome, readat_answer_from, cut_outcome, cut_outcome_to, can_read, can_write, natural}
 use Rattle.file_store.specs.WriteLaws.{OneChanged, Wrote, Resized, IsWritten, WritesAreRead, CutsKeepTheRest}
 use Rattle.file_store.proofs.FileBytesLemmas.{length-resized, resized_at, length-overwritten, overwritten_at, length-part, part_at}
 use Rattle.file_store.proofs.WriteLemmas.{overlaid_before, overlaid_after}
@@ -102,11 +102,8 @@ not_empty bytes some e = let zero : length bytes ≡ 0 = (Decides-eqb (length by
 
 write_done : (group : Group) (id : ℕ) (bytes : List ℕ) (count at : ℕ) (description : Description) (old : File) → open_file_at group id ≡ Some (description, old) → write_offset description old ≡ at → 0 < length bytes → (fstep group (op.Write id bytes)).answer ≡ answer.Count count → IsWritten group (fstep group (op.Write id bytes)).group id description old at bytes
 write_done group id bytes count at description old is e some =
-    subst (λ (o : Option (Description × File)). (write_outcome group id bytes o).answer ≡ answer.Count count → G (write_outcome group id bytes o).group) (sym is) by_access
+    subst (λ (o : Option (Description × File)). P (on_open group (write_outcome group id bytes) o)) (sym is) by_access
   where
-    G : Group → Type 0
-    G after = IsWritten group after id description old at bytes
-
     P : FilesOutcome → Type 0
     P o = o.answer ≡ answer.Count count → IsWritten group o.group id description old at bytes
 
@@ -126,12 +123,12 @@ write_done group id bytes count at description old is e some =
     by_length : P (cond (length bytes == 0) (outcome_of group (answer.Count 0)) (write_outcome_on group id description old (write_offset description old) bytes))
     by_length = chosen P (length bytes == 0) (outcome_of group (answer.Count 0)) (write_outcome_on group id description old (write_offset description old) bytes) (λ t. absurd (not_empty bytes some t)) (λ t. by_refusal (write_offset description old) e)
 
-    by_access : P (write_outcome group id bytes (Some (description, old)))
+    by_access : P (write_outcome group id bytes description old)
     by_access = chosen P (can_write description.mode.access) (cond (length bytes == 0) (outcome_of group (answer.Count 0)) (write_outcome_on group id description old (write_offset description old) bytes)) (outcome_of group (answer.Fault Ebadf)) (λ t. by_length) (λ t answered. absurd (false≢true (ap (λ (a : FileAnswer). is_some (counted a)) answered)))
 
 write_at_done : (group : Group) (id : ℕ) (bytes : List ℕ) (offset : ℤ) (at count : ℕ) (description : Description) (old : File) → open_file_at group id ≡ Some (description, old) → natural offset ≡ Some at → 0 < length bytes → (fstep group (op.Writeat id bytes offset)).answer ≡ answer.Count count → (new : File) × Wrote group (fstep group (op.Writeat id bytes offset)).group description.file old new at bytes × ((fstep group (op.Writeat id bytes offset)).group.descriptions ≡ group.descriptions)
 write_at_done group id bytes offset at count description old is e some =
-    subst (λ (o : Option (Description × File)). P (writeat_outcome group bytes offset o)) (sym is) by_access
+    subst (λ (o : Option (Description × File)). P (on_open group (writeat_outcome group bytes offset) o)) (sym is) by_access
   where
     G : Group → Type 0
     G after = (new : File) × Wrote group after description.file old new at bytes × (after.descriptions ≡ group.descriptions)
@@ -152,7 +149,7 @@ write_at_done group id bytes offset at count description old is e some =
     by_offset : P (writeat_outcome_from group description.file old bytes (natural offset))
     by_offset = subst (λ (n : Option ℕ). P (writeat_outcome_from group description.file old bytes n)) (sym e) (chosen P (length bytes == 0) (outcome_of group (answer.Count 0)) (unless_refused group (put_refusal group.files description.file old at bytes) done) (λ t. absurd (not_empty bytes some t)) (λ t. by_refusal))
 
-    by_access : P (writeat_outcome group bytes offset (Some (description, old)))
+    by_access : P (writeat_outcome group bytes offset description old)
     by_access = chosen P (can_write description.mode.access) (writeat_outcome_from group description.file old bytes (natural offset)) (outcome_of group (answer.Fault Ebadf)) (λ t. by_offset) (λ t answered. absurd (false≢true (ap (λ (a : FileAnswer). is_some (counted a)) answered)))
 
 -- a part of what was written, in the file that has it
@@ -171,7 +168,7 @@ found_with_file group id description file there is =
 read_done : (before after : Group) (file : ℕ) (old new : File) (at : ℕ) (bytes : List ℕ) → Wrote before after file old new at bytes → (reader skip count : ℕ) (description : Description) → description_at after reader ≡ Some description → description.file ≡ file → can_read description.mode.access ≡ true → skip + min count read_max ≤ length bytes → (fstep after (op.Readat reader count (pos (at + skip)))).answer ≡ answer.Bytes (part bytes skip (min count read_max))
 read_done before after file old new at bytes w reader skip count description there same can low =
     let is : file_at after description.file ≡ Some new = ap (λ (n : ℕ). file_at after n) same ∙ w.one.is in
-    ap (λ (o : Option (Description × File)). readat_answer count (pos (at + skip)) o) (found_with_file after reader description new there is)
+    ap (λ (o : Option (Description × File)). (on_open after (readat_outcome after count (pos (at + skip))) o).answer) (found_with_file after reader description new there is)
     ∙ ap (λ (b : Bool). cond b (readat_answer_from new count (Some (at + skip))) (answer.Fault Ebadf)) can
     ∙ ap (λ (xs : List ℕ). answer.Bytes xs) (part_written new.bytes at bytes skip (min count read_max) (omega (arith, w.size)) w.written low)
 
@@ -185,7 +182,7 @@ writes_are_read = record {
 
 cut_done : (group : Group) (id : ℕ) (size : ℤ) (n : ℕ) (description : Description) (old : File) → open_file_at group id ≡ Some (description, old) → natural size ≡ Some n → (fstep group (op.Cut id size)).answer ≡ answer.Done → (new : File) × Resized group (fstep group (op.Cut id size)).group description.file old new n × ((fstep group (op.Cut id size)).group.descriptions ≡ group.descriptions)
 cut_done group id size n description old is e =
-    subst (λ (o : Option (Description × File)). P (cut_outcome group size o)) (sym is) by_access
+    subst (λ (o : Option (Description × File)). P (on_open group (cut_outcome group size) o)) (sym is) by_access
   where
     G : Group → Type 0
     G after = (new : File) × Resized group after description.file old new n × (after.descriptions ≡ group.descriptions)
@@ -206,7 +203,7 @@ cut_done group id size n description old is e =
     by_size : P (cut_outcome_to group description.file old (natural size))
     by_size = subst (λ (m : Option ℕ). P (cut_outcome_to group description.file old m)) (sym e) by_refusal
 
-    by_access : P (cut_outcome group size (Some (description, old)))
+    by_access : P (cut_outcome group size description old)
     by_access = chosen P (can_write description.mode.access) (cut_outcome_to group description.file old (natural size)) (outcome_of group (answer.Fault Einval)) (λ t. by_size) (λ t answered. absurd (false≢true (ap (λ (a : FileAnswer). is_some (ended a)) answered)))
 
 nothing_left : (bytes : List ℕ) → with_length 0 bytes ≡ []

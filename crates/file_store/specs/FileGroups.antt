@@ -85,6 +85,11 @@ pub record FilesOutcome : Type 0 where
 abbrev pub outcome_of : Group → FileAnswer → FilesOutcome
 outcome_of group answer = record { group = group; answer = answer }
 
+-- what is done by a description is done where it is there, and is `EBADF` else
+abbrev pub on_open : Group → (Description → File → FilesOutcome) → Option (Description × File) → FilesOutcome
+on_open group done None = outcome_of group (answer.Fault Ebadf)
+on_open group done (Some o) = done o.0 o.1
+
 -- the group with other files
 abbrev pub with_files : Group → Table File → Group
 with_files group files = record group { files = files }
@@ -147,17 +152,18 @@ release_outcome group id (Some description) = record { group = group_after_relea
 abbrev pub read_outcome_on : Group → ℕ → Description → List ℕ → FilesOutcome
 read_outcome_on group id description bytes = record { group = with_offset group id description (description.offset + length bytes); answer = answer.Bytes bytes }
 
-abbrev pub read_outcome : Group → ℕ → ℕ → Option (Description × File) → FilesOutcome
-read_outcome group id count None = outcome_of group (answer.Fault Ebadf)
-read_outcome group id count (Some o) = if can_read o.0.mode.access then read_outcome_on group id o.0 (part o.1.bytes o.0.offset (min count read_max)) else outcome_of group (answer.Fault Ebadf)
+abbrev pub read_outcome : Group → ℕ → ℕ → Description → File → FilesOutcome
+read_outcome group id count description file = if can_read description.mode.access then read_outcome_on group id description (part file.bytes description.offset (min count read_max)) else outcome_of group (answer.Fault Ebadf)
 
 abbrev pub readat_answer_from : File → ℕ → Option ℕ → FileAnswer
 readat_answer_from file count None = answer.Fault Einval
 readat_answer_from file count (Some offset) = answer.Bytes (part file.bytes offset (min count read_max))
 
-abbrev pub readat_answer : ℕ → ℤ → Option (Description × File) → FileAnswer
-readat_answer count offset None = answer.Fault Ebadf
-readat_answer count offset (Some o) = if can_read o.0.mode.access then readat_answer_from o.1 count (natural offset) else answer.Fault Ebadf
+abbrev pub readat_answer : ℕ → ℤ → Description → File → FileAnswer
+readat_answer count offset description file = if can_read description.mode.access then readat_answer_from file count (natural offset) else answer.Fault Ebadf
+
+abbrev pub readat_outcome : Group → ℕ → ℤ → Description → File → FilesOutcome
+readat_outcome group count offset description file = outcome_of group (readat_answer count offset description file)
 
 -- the files into one of which bytes were written
 abbrev pub with_bytes : Table File → ℕ → File → ℕ → List ℕ → Table File
@@ -175,17 +181,15 @@ write_offset description file = if description.mode.append then length file.byte
 abbrev pub write_outcome_on : Group → ℕ → Description → File → ℕ → List ℕ → FilesOutcome
 write_outcome_on group id description file at bytes = unless_refused group (put_refusal group.files description.file file at bytes) (record { group = with_offset (with_files group (with_bytes group.files description.file file at bytes)) id description (at + length bytes); answer = answer.Count (length bytes) })
 
-abbrev pub write_outcome : Group → ℕ → List ℕ → Option (Description × File) → FilesOutcome
-write_outcome group id bytes None = outcome_of group (answer.Fault Ebadf)
-write_outcome group id bytes (Some o) = if can_write o.0.mode.access then (if length bytes == 0 then outcome_of group (answer.Count 0) else write_outcome_on group id o.0 o.1 (write_offset o.0 o.1) bytes) else outcome_of group (answer.Fault Ebadf)
+abbrev pub write_outcome : Group → ℕ → List ℕ → Description → File → FilesOutcome
+write_outcome group id bytes description file = if can_write description.mode.access then (if length bytes == 0 then outcome_of group (answer.Count 0) else write_outcome_on group id description file (write_offset description file) bytes) else outcome_of group (answer.Fault Ebadf)
 
 abbrev pub writeat_outcome_from : Group → ℕ → File → List ℕ → Option ℕ → FilesOutcome
 writeat_outcome_from group file_id file bytes None = outcome_of group (answer.Fault Einval)
 writeat_outcome_from group file_id file bytes (Some at) = if length bytes == 0 then outcome_of group (answer.Count 0) else unless_refused group (put_refusal group.files file_id file at bytes) (record { group = with_files group (with_bytes group.files file_id file at bytes); answer = answer.Count (length bytes) })
 
-abbrev pub writeat_outcome : Group → List ℕ → ℤ → Option (Description × File) → FilesOutcome
-writeat_outcome group bytes offset None = outcome_of group (answer.Fault Ebadf)
-writeat_outcome group bytes offset (Some o) = if can_write o.0.mode.access then writeat_outcome_from group o.0.file o.1 bytes (natural offset) else outcome_of group (answer.Fault Ebadf)
+abbrev pub writeat_outcome : Group → List ℕ → ℤ → Description → File → FilesOutcome
+writeat_outcome group bytes offset description file = if can_write description.mode.access then writeat_outcome_from group description.file file bytes (natural offset) else outcome_of group (answer.Fault Ebadf)
 
 -- what a seek counts from
 abbrev pub seek_base : Whence → Description → File → ℕ
@@ -202,9 +206,8 @@ abbrev pub seek_outcome_to : Group → ℕ → Description → Result ℕ Errno 
 seek_outcome_to group id description (Err error) = outcome_of group (answer.Fault error)
 seek_outcome_to group id description (Ok at) = record { group = with_offset group id description at; answer = answer.At at }
 
-abbrev pub seek_outcome : Group → ℕ → ℤ → Whence → Option (Description × File) → FilesOutcome
-seek_outcome group id offset whence None = outcome_of group (answer.Fault Ebadf)
-seek_outcome group id offset whence (Some o) = seek_outcome_to group id o.0 (seek_offset (natural (pos (seek_base whence o.0 o.1) +ℤ offset)))
+abbrev pub seek_outcome : Group → ℕ → ℤ → Whence → Description → File → FilesOutcome
+seek_outcome group id offset whence description file = seek_outcome_to group id description (seek_offset (natural (pos (seek_base whence description file) +ℤ offset)))
 
 -- the files of which one has that size
 abbrev pub with_size : Table File → ℕ → File → ℕ → Table File
@@ -217,13 +220,11 @@ abbrev pub cut_outcome_to : Group → ℕ → File → Option ℕ → FilesOutco
 cut_outcome_to group id file None = outcome_of group (answer.Fault Einval)
 cut_outcome_to group id file (Some size) = unless_refused group (cut_refusal group.files id file size) (record { group = with_files group (with_size group.files id file size); answer = answer.Done })
 
-abbrev pub cut_outcome : Group → ℤ → Option (Description × File) → FilesOutcome
-cut_outcome group size None = outcome_of group (answer.Fault Ebadf)
-cut_outcome group size (Some o) = if can_write o.0.mode.access then cut_outcome_to group o.0.file o.1 (natural size) else outcome_of group (answer.Fault Einval)
+abbrev pub cut_outcome : Group → ℤ → Description → File → FilesOutcome
+cut_outcome group size description file = if can_write description.mode.access then cut_outcome_to group description.file file (natural size) else outcome_of group (answer.Fault Einval)
 
-abbrev pub size_answer : Option (Description × File) → FileAnswer
-size_answer None = answer.Fault Ebadf
-size_answer (Some o) = answer.Size (length o.1.bytes)
+abbrev pub size_outcome : Group → Description → File → FilesOutcome
+size_outcome group description file = outcome_of group (answer.Size (length file.bytes))
 
 -- each operation on a group
 abbrev pub fstep : Group → FileOp → FilesOutcome
@@ -232,10 +233,10 @@ fstep group (op.Attach file mode truncate) = attach_outcome group file mode trun
 fstep group (op.Sizeof file) = outcome_of group (sizeof_answer (file_at group file))
 fstep group (op.Unlinked file) = outcome_of (with_files group (files_after_unlink group.files (is_open group.descriptions file) file (file_at group file))) answer.Done
 fstep group (op.Release id) = release_outcome group id (description_at group id)
-fstep group (op.Read id count) = read_outcome group id count (open_file_at group id)
-fstep group (op.Readat id count offset) = outcome_of group (readat_answer count offset (open_file_at group id))
-fstep group (op.Write id bytes) = write_outcome group id bytes (open_file_at group id)
-fstep group (op.Writeat id bytes offset) = writeat_outcome group bytes offset (open_file_at group id)
-fstep group (op.Seek id offset whence) = seek_outcome group id offset whence (open_file_at group id)
-fstep group (op.Cut id size) = cut_outcome group size (open_file_at group id)
-fstep group (op.Size id) = outcome_of group (size_answer (open_file_at group id))
+fstep group (op.Read id count) = on_open group (read_outcome group id count) (open_file_at group id)
+fstep group (op.Readat id count offset) = on_open group (readat_outcome group count offset) (open_file_at group id)
+fstep group (op.Write id bytes) = on_open group (write_outcome group id bytes) (open_file_at group id)
+fstep group (op.Writeat id bytes offset) = on_open group (writeat_outcome group bytes offset) (open_file_at group id)
+fstep group (op.Seek id offset whence) = on_open group (seek_outcome group id offset whence) (open_file_at group id)
+fstep group (op.Cut id size) = on_open group (cut_outcome group size) (open_file_at group id)
+fstep group (op.Size id) = on_open group (size_outcome group) (open_file_at group id)

@@ -1,6 +1,6 @@
 ghost use Rattle.std.specs.Prelude.{◌≡◌, ℕ, ◌≤◌, ◌+ℤ◌, pos, Option, None, Some, MatchOption, true, IsOk, IsSome, IfOk, IfSome, OnErr};
 ghost use Rattle.std.specs.Option.{option_map};
-ghost use Rattle.file_store.specs.FileGroups.{opening, open_file_at, file_at, description_at, make_outcome, attach_outcome, sizeof_answer, files_after_unlink, with_files, is_open, release_outcome, group_after_release, read_outcome, readat_answer, write_outcome, writeat_outcome, seek_outcome, cut_outcome, size_answer, natural, write_offset, seek_base, seek_offset, fstep, total_pages};
+ghost use Rattle.file_store.specs.FileGroups.{opening, open_file_at, on_open, outcome_of, file_at, description_at, make_outcome, attach_outcome, sizeof_answer, files_after_unlink, with_files, is_open, release_outcome, group_after_release, read_outcome, readat_outcome, write_outcome, writeat_outcome, seek_outcome, cut_outcome, size_outcome, natural, write_offset, seek_base, seek_offset, fstep, total_pages};
 ghost use Rattle.file_store.specs.FileForms.{IsSpare};
 
 use crate::description_table::DescriptionTable;
@@ -198,7 +198,7 @@ impl FileGroup {
 
     fn read(&mut self, id: DescriptionId, count: u32) -> Result<FileAnswer, AllocError>
         ensures ok { IfOk result
-            (λ answer. read_outcome self.old id count (open_file_at self.old id)
+            (λ answer. on_open self.old (read_outcome self.old id count) (open_file_at self.old id)
             ≡ record { group = self.new; answer = answer }) }
         ensures err { OnErr result (self.new ≡ self.old) }
     {
@@ -217,7 +217,8 @@ impl FileGroup {
 
     fn read_at(&self, id: DescriptionId, count: u32, offset: i64) -> Result<FileAnswer, AllocError>
         ensures { IfOk result
-            (λ answer. answer ≡ readat_answer count offset (open_file_at self.now id)) }
+            (λ answer. on_open self.now (readat_outcome self.now count offset) (open_file_at self.now id)
+            ≡ outcome_of self.now answer) }
     {
         let Some((description, file)) = self.opened(id) else {
             return Ok(FileAnswer::Fault(Errno::Ebadf));
@@ -234,7 +235,7 @@ impl FileGroup {
 
     fn write(&mut self, id: DescriptionId, text: &Text) -> Result<FileAnswer, AllocError>
         ensures ok { IfOk result
-            (λ answer. write_outcome self.old id text.now (open_file_at self.old id)
+            (λ answer. on_open self.old (write_outcome self.old id text.now) (open_file_at self.old id)
             ≡ record { group = self.new; answer = answer }) }
         ensures err { OnErr result (self.new ≡ self.old) }
     {
@@ -264,7 +265,7 @@ impl FileGroup {
         offset: i64,
     ) -> Result<FileAnswer, AllocError>
         ensures ok { IfOk result
-            (λ answer. writeat_outcome self.old text.now offset (open_file_at self.old id)
+            (λ answer. on_open self.old (writeat_outcome self.old text.now offset) (open_file_at self.old id)
             ≡ record { group = self.new; answer = answer }) }
         ensures err { OnErr result (self.new ≡ self.old) }
     {
@@ -288,7 +289,7 @@ impl FileGroup {
     }
 
     fn seek(&mut self, id: DescriptionId, offset: i64, whence: Whence) -> FileAnswer
-        ensures { seek_outcome self.old id offset whence (open_file_at self.old id)
+        ensures { on_open self.old (seek_outcome self.old id offset whence) (open_file_at self.old id)
             ≡ record { group = self.new; answer = result } }
     {
         let Some((description, file)) = self.opened(id) else {
@@ -304,7 +305,7 @@ impl FileGroup {
     }
 
     fn cut(&mut self, id: DescriptionId, size: i64) -> FileAnswer
-        ensures { cut_outcome self.old size (open_file_at self.old id)
+        ensures { on_open self.old (cut_outcome self.old size) (open_file_at self.old id)
             ≡ record { group = self.new; answer = result } }
     {
         let Some((description, _)) = self.opened(id) else {
@@ -323,7 +324,8 @@ impl FileGroup {
     }
 
     fn size(&self, id: DescriptionId) -> FileAnswer
-        ensures { result ≡ size_answer (open_file_at self.now id) }
+        ensures { on_open self.now (size_outcome self.now) (open_file_at self.now id)
+            ≡ outcome_of self.now result }
     {
         match self.opened(id) {
             Some((_, file)) => FileAnswer::Size(file.bytes.size()),

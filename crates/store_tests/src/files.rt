@@ -1,3 +1,4 @@
+mod counts;
 mod descriptors;
 mod limits;
 mod operations;
