@@ -5,7 +5,6 @@ pub mod LifeLaws
 pub mod LifeParts
 pub mod LifeSteps
 pub mod Making
-pub mod NoteParts
 pub mod OwnerLaws
 pub mod OwnerViews
 pub mod Parts
