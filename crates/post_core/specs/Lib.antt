@@ -14,7 +14,6 @@ pub mod SendLaws
 pub mod SendParts
 pub mod SendSteps
 pub mod ServingSteps
-pub mod Settles
 pub mod Steps
 pub mod TableLaws
 pub mod Views
