@@ -11,9 +11,8 @@ use Rattle.post_core.specs.declared.records.StartedJob.{StartedJob}
 use Rattle.post_core.specs.declared.views.Held.{Held}
 use Rattle.post_core.specs.declared.views.View.{View}
 use Rattle.post_core.specs.Kept.{listed}
-use Rattle.post_core.specs.Parts.{IsOpen, IsOwner, IsOwnerAt, KeepsAll}
+use Rattle.post_core.specs.Parts.{IsOpen, IsOwner, IsOwnerAt, KeepsAll, fate_kept, job_with_fate, kept_settled}
 use Rattle.post_core.specs.Records.{started_job}
-use Rattle.post_core.specs.Settles.{fate_kept, job_with_fate, kept_settled}
 use Rattle.post_core.specs.Steps.{IsActiveHere}
 use Rattle.post_core.specs.Views.{job_settled, owner_of, settled_as, settled_held}
 

@@ -5,7 +5,6 @@ pub mod LifeLaws
 pub mod LifeParts
 pub mod LifeSteps
 pub mod Making
-pub mod NoteParts
 pub mod OwnerLaws
 pub mod OwnerViews
 pub mod Parts
@@ -15,7 +14,6 @@ pub mod SendLaws
 pub mod SendParts
 pub mod SendSteps
 pub mod ServingSteps
-pub mod Settles
 pub mod Steps
 pub mod TableLaws
 pub mod Views

@@ -1,9 +1,10 @@
 -- What the parts of a target hold of its table.
-use Rattle.std.specs.Prelude.{◌≡◌, ◌≢◌, ℕ, ◌<◌, Bool, [], true, false, None, List, map, length, slice_index, slice_index_or}
+use Rattle.std.specs.Prelude.{◌≡◌, ◌≢◌, ℕ, ◌<◌, Bool, [], true, false, Option, Some, None, List, map, length, slice_get, slice_index, slice_index_or, slice_set}
 use Rattle.proxy_laws.specs.declared.actors.Look.TheVariants as look
 use Rattle.proxy_laws.specs.declared.actors.OwnerState.TheVariants as owner
 use Rattle.proxy_laws.specs.declared.actors.Phase.{Phase}
 use Rattle.proxy_laws.specs.declared.actors.Serving.TheVariants as serving
+use Rattle.proxy_laws.specs.declared.records.FateMark.{FateMark}
 use Rattle.proxy_laws.specs.declared.records.OwnMark.{OwnMark}
 use Rattle.post_core.specs.declared.records.StartedJob.{StartedJob}
 use Rattle.post_core.specs.declared.views.View.{View}
@@ -71,3 +72,14 @@ serving_of started.Closing = serving.Away
 abbrev pub is_open_start : Started → Bool
 is_open_start started.Closing = false
 is_open_start _ = true
+
+abbrev pub job_with_fate : FateMark → StartedJob → StartedJob
+job_with_fate fate job = record job { fate = Some fate }
+
+abbrev pub fate_kept : List StartedJob → ℕ → FateMark → Option StartedJob → List StartedJob
+fate_kept jobs nth fate None = jobs
+fate_kept jobs nth fate (Some job) = slice_set jobs nth (job_with_fate fate job)
+
+-- the jobs of a place once this one is settled
+abbrev pub kept_settled : ℕ → FateMark → List StartedJob → List StartedJob
+kept_settled nth fate jobs = fate_kept jobs nth fate (slice_get jobs nth)

@@ -1,5 +1,5 @@
--- What the contracts of a sender's calls say of the parts that it holds.
-use Rattle.std.specs.Prelude.{◌≡◌, ℕ, ◌<◌, length, slice_index}
+-- What the contracts of a sender's calls, and of those on notes, say of the parts that they take.
+use Rattle.std.specs.Prelude.{◌≡◌, ℕ, ◌<◌, List, ◌++◌, length, slice_index}
 use Rattle.proxy_laws.specs.declared.records.Mark.{Mark}
 use Rattle.post_core.specs.declared.meant.Meant.{Ghosts}
 use Rattle.post_core.specs.declared.post.Notice.{Notice}
@@ -7,6 +7,7 @@ use Rattle.post_core.specs.declared.post.Owing.{Owing}
 use Rattle.post_core.specs.declared.post.PlaceUse.{PlaceUse}
 use Rattle.post_core.specs.declared.post.Post.{Post}
 use Rattle.post_core.specs.declared.post.RefPass.{RefPass}
+use Rattle.post_core.specs.declared.post.SeenNote.{SeenNote}
 use Rattle.post_core.specs.declared.post.SendPass.{SendPass}
 use Rattle.post_core.specs.declared.send_answers.Notified.{Notified}
 use Rattle.post_core.specs.declared.send_answers.Notified.TheVariants as notified
@@ -14,6 +15,7 @@ use Rattle.post_core.specs.declared.send_answers.PutAnswer.{PutAnswer}
 use Rattle.post_core.specs.declared.send_answers.PutAnswer.TheVariants as put
 use Rattle.post_core.specs.declared.send_answers.RefAnswer.{RefAnswer}
 use Rattle.post_core.specs.declared.send_answers.RefAnswer.TheVariants as taken
+use Rattle.post_core.specs.declared.views.Fact.{Fact}
 use Rattle.post_core.specs.declared.views.View.{View}
 use Rattle.post_core.specs.Kept.{listed}
 use Rattle.post_core.specs.SendSteps.{IsNextAt, job_sent}
@@ -28,6 +30,10 @@ use_place place_use = place_use.place
 -- the mark of the next job that the pass with this view puts at a place
 abbrev pub next_own_mark : {M : Type 0} → ℕ → ℕ → View M → Mark
 next_own_mark place tag v = record { sender = (pass_of v).number; seq = length (listed (pass_of v).own place); tag = tag }
+
+-- the view has seen these facts too
+abbrev pub with_seen : {M : Type 0} → List (Fact M) → View M → View M
+with_seen seen v = record v { seen = v.seen ++ seen }
 
 module _ {J M : Type 0} where
   -- what a post shows of its target
@@ -66,6 +72,9 @@ module _ {J M : Type 0} {g : Ghosts J M} where
   abbrev pub notice_view : Notice J M g → View M
   notice_view notice = notice.hold.seat.me.0
 
+  abbrev pub note_view : SeenNote J M g → View M
+  note_view note = note.seat.me.0
+
   -- the part is of this post's table
   abbrev pub IsPassOf : Post J M → SendPass J M g → Type 0
   IsPassOf post pass = pass.hold.seat.table_id ≡ post.table.shared.table_id
@@ -78,6 +87,9 @@ module _ {J M : Type 0} {g : Ghosts J M} where
 
   abbrev pub IsNoticeOf : Post J M → Notice J M g → Type 0
   IsNoticeOf post notice = notice.hold.seat.table_id ≡ post.table.shared.table_id
+
+  abbrev pub IsNoteOf : Post J M → SeenNote J M g → Type 0
+  IsNoteOf post note = note.seat.table_id ≡ post.table.shared.table_id
 
   -- the number of a pass's sender
   abbrev pub pass_sender : SendPass J M g → ℕ

@@ -1,8 +1,7 @@
 //! What one part of a target has seen is handed to another.
 
 ghost use Rattle.std.specs.Prelude.{◌≡◌};
-ghost use Rattle.post_core.specs.NoteParts.{IsNoteOf, note_view, with_seen};
-ghost use Rattle.post_core.specs.SendParts.{IsPassOf, pass_view};
+ghost use Rattle.post_core.specs.SendParts.{IsNoteOf, IsPassOf, note_view, pass_view, with_seen};
 ghost use Rattle.post_core.specs.Views.{noted};
 
 use crate::joining::{Noted, Together};

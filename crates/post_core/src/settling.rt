@@ -3,11 +3,10 @@
 ghost use Rattle.std.specs.Prelude.{◌≡◌, ◌<◌, Some, length, slice_set};
 ghost use Rattle.proxy_laws.specs.declared.records.FateMark.TheVariants.{Finished};
 ghost use Rattle.post_core.specs.Kept.{listed};
-ghost use Rattle.post_core.specs.NoteParts.{IsNoteOf, note_view};
 ghost use Rattle.post_core.specs.OwnerViews.{IsExecOf, IsOwnerOf, exec_place, exec_view, owner_view};
+ghost use Rattle.post_core.specs.Parts.{kept_settled};
 ghost use Rattle.post_core.specs.Records.{counts_of, starts_of};
-ghost use Rattle.post_core.specs.SendParts.{HasPlace};
-ghost use Rattle.post_core.specs.Settles.{kept_settled};
+ghost use Rattle.post_core.specs.SendParts.{HasPlace, IsNoteOf, note_view};
 ghost use Rattle.post_core.specs.Steps.{IsActiveHere};
 ghost use Rattle.post_core.specs.Views.{job_settled, noted, owner_of};
 

@@ -5,7 +5,7 @@ use Rattle.std.proofs.lemmas.Option.{slice_get-get_or}
 use Rattle.std.specs.Prelude.{slice_get, slice_set}
 use Rattle.post_core.specs.declared.records.StartedJob.{StartedJob}
 use Rattle.post_core.specs.Kept.{listed}
-use Rattle.post_core.specs.Settles.{fate_kept, kept_settled}
+use Rattle.post_core.specs.Parts.{fate_kept, kept_settled}
 use Rattle.post_core.proofs.settling.keep_fate.Goals as goal
 
 pub returns-clause-started : goal.returns-clause-started
