@@ -1,8 +1,9 @@
+use super::check_steps;
 use name_store::{NameAnswer, NameOp, NameTree, Node, TreeLine};
-use std::alloc::Global;
+use std::alloc::{AllocError, Global};
 use std::process::Abort;
 use std::test::Fail;
-use wf_core::{BackendId, DirId, Errno, FileId, LinkId, Name, PathText};
+use wf_core::{BackendId, DirId, LinkId, Name, PathText};
 
 fn name_of(alloc: Global, first: u8, length: usize) -> Result<Name, Fail> {
     let mut bytes = vec![in alloc; b'n'; length]?;
@@ -12,195 +13,68 @@ fn name_of(alloc: Global, first: u8, length: usize) -> Result<Name, Fail> {
     Ok(Name::read(alloc, bytes.as_slice())?)
 }
 
-fn text_of(alloc: Global, length: usize) -> Result<PathText, Fail> {
-    let bytes = vec![in alloc; b't'; length]?;
-    Ok(PathText::read(alloc, bytes.as_slice())?)
+/// A line with a text in the place of each mark.
+fn filled(alloc: Global, line: &str, mark: char, text: &str) -> Result<String, AllocError> {
+    let mut out = String::new(alloc);
+    for (index, piece) in line.split(mark).enumerate() {
+        if index > 0 {
+            out.push_str(text)?;
+        }
+        out.push_str(piece)?;
+    }
+    Ok(out)
 }
 
-/// How many bytes the names and the texts of a test have.
-#[derive(Clone, Copy)]
-struct Lengths {
-    name: usize,
-    text: usize,
+fn repeated(alloc: Global, piece: &str, count: u32) -> Result<String, AllocError> {
+    let mut out = String::new(alloc);
+    for _ in 0..count {
+        out.push_str(piece)?;
+    }
+    Ok(out)
 }
 
-impl Lengths {
-    fn name(self, alloc: Global, first: u8) -> Result<Name, Fail> {
-        name_of(alloc, first, self.name)
-    }
-
-    fn look(self, alloc: Global, id: u64, first: u8) -> Result<NameOp, Fail> {
-        Ok(NameOp::Look(DirId::new(id), self.name(alloc, first)?))
-    }
-
-    fn addlink(self, alloc: Global, first: u8) -> Result<NameOp, Fail> {
-        Ok(NameOp::Addlink {
-            directory: DirId::ROOT,
-            name: self.name(alloc, first)?,
-            text: text_of(alloc, self.text)?,
-        })
-    }
-
-    fn addfile(self, alloc: Global, first: u8) -> Result<NameOp, Fail> {
-        Ok(NameOp::Addfile {
-            directory: DirId::ROOT,
-            name: self.name(alloc, first)?,
-            file: FileId::new(4),
-        })
-    }
-
-    fn remfile(self, alloc: Global, first: u8, slash: bool) -> Result<NameOp, Fail> {
-        Ok(NameOp::Remfile {
-            directory: DirId::ROOT,
-            name: self.name(alloc, first)?,
-            slash,
-        })
-    }
-
-    /// A move from the one directory and name to the other.
-    fn moved(self, alloc: Global, from: (u64, u8), to: (u64, u8)) -> Result<NameOp, Fail> {
-        Ok(NameOp::Move {
-            from: DirId::new(from.0),
-            name: self.name(alloc, from.1)?,
-            to: DirId::new(to.0),
-            new_name: self.name(alloc, to.1)?,
-            slash: false,
-        })
-    }
-
-    fn link(self, alloc: Global, id: u64) -> Result<Node, Fail> {
-        Ok(Node::Link(LinkId::new(id), text_of(alloc, self.text)?))
-    }
-}
-
-fn check(
-    rt: &impl Abort,
-    tree: &mut NameTree,
-    op: NameOp,
-    expected: NameAnswer,
-) -> Result<(), Fail> {
-    assert_eq!(rt; tree.apply(&op)?, expected);
-    Ok(())
-}
-
-fn makes(rt: &impl Abort, alloc: Global, tree: &mut NameTree, long: Lengths) -> Result<(), Fail> {
-    let file = FileId::new(4);
-    let directory = DirId::new(1);
-    let make = NameOp::Makedir(DirId::ROOT, long.name(alloc, b'a')?);
-    assert_eq!(rt; tree.apply(&make)?, NameAnswer::MadeDir(directory));
-    assert_eq!(rt; tree.apply(&make)?, NameAnswer::Fault(Errno::Eexist));
-    check(
-        rt,
-        tree,
-        long.look(alloc, 0, b'a')?,
-        NameAnswer::Found(Node::Dir(directory)),
-    )?;
-    check(
-        rt,
-        tree,
-        long.addlink(alloc, b'b')?,
-        NameAnswer::MadeLink(LinkId::new(2)),
-    )?;
-    check(
-        rt,
-        tree,
-        long.addlink(alloc, b'b')?,
-        NameAnswer::Fault(Errno::Eexist),
-    )?;
-    check(
-        rt,
-        tree,
-        long.look(alloc, 0, b'b')?,
-        NameAnswer::Found(long.link(alloc, 2)?),
-    )?;
-    check(rt, tree, long.addfile(alloc, b'c')?, NameAnswer::Done)?;
-    check(
-        rt,
-        tree,
-        long.addfile(alloc, b'c')?,
-        NameAnswer::Taken(Node::File(file)),
-    )?;
-    check(
-        rt,
-        tree,
-        long.addfile(alloc, b'b')?,
-        NameAnswer::Taken(long.link(alloc, 2)?),
-    )
-}
-
-fn moves(rt: &impl Abort, alloc: Global, tree: &mut NameTree, long: Lengths) -> Result<(), Fail> {
-    let file = FileId::new(4);
-    check(
-        rt,
-        tree,
-        long.moved(alloc, (0, b'c'), (1, b'd'))?,
-        NameAnswer::Moved,
-    )?;
-    check(rt, tree, long.look(alloc, 0, b'c')?, NameAnswer::Absent)?;
-    check(
-        rt,
-        tree,
-        long.look(alloc, 1, b'd')?,
-        NameAnswer::Found(Node::File(file)),
-    )?;
-    check(
-        rt,
-        tree,
-        long.moved(alloc, (0, b'b'), (1, b'd'))?,
-        NameAnswer::Over(file),
-    )?;
-    check(
-        rt,
-        tree,
-        long.look(alloc, 1, b'd')?,
-        NameAnswer::Found(long.link(alloc, 2)?),
-    )?;
-    check(
-        rt,
-        tree,
-        long.moved(alloc, (1, b'd'), (0, b'e'))?,
-        NameAnswer::Moved,
-    )?;
-    check(
-        rt,
-        tree,
-        long.moved(alloc, (0, b'a'), (0, b'f'))?,
-        NameAnswer::Moved,
-    )
-}
-
-fn removes(rt: &impl Abort, alloc: Global, tree: &mut NameTree, long: Lengths) -> Result<(), Fail> {
-    let file = FileId::new(4);
-    let slash = NameAnswer::Fault(Errno::Enotdir);
-    check(rt, tree, long.remfile(alloc, b'e', true)?, slash)?;
-    check(
-        rt,
-        tree,
-        long.remfile(alloc, b'e', false)?,
-        NameAnswer::RemovedLink,
-    )?;
-    check(rt, tree, long.addfile(alloc, b'g')?, NameAnswer::Done)?;
-    check(
-        rt,
-        tree,
-        long.remfile(alloc, b'g', false)?,
-        NameAnswer::RemovedFile(file),
-    )?;
-    let directory = NameOp::Remdir(DirId::ROOT, long.name(alloc, b'f')?);
-    assert_eq!(rt; tree.apply(&directory)?, NameAnswer::Done);
-    check(rt, tree, long.look(alloc, 0, b'f')?, NameAnswer::Absent)
-}
+/// Each operation that takes a name or a text. `@` stands for all bytes of a name but its first, `#` for a text.
+const LONG: [(&str, &str); 23] = [
+    ("makedir 0 a@", "dir 1"),
+    ("makedir 0 a@", "EEXIST"),
+    ("look 0 a@", "dir 1"),
+    ("addlink 0 b@ #", "link 2"),
+    ("addlink 0 b@ #", "EEXIST"),
+    ("look 0 b@", "link 2 #"),
+    ("addfile 0 c@ 4", "done"),
+    ("addfile 0 c@ 8", "taken file 4"),
+    ("addfile 0 b@ 8", "taken link 2 #"),
+    ("move 0 c@ 1 d@ 0", "moved"),
+    ("look 0 c@", "absent"),
+    ("look 1 d@", "file 4"),
+    ("move 0 b@ 1 d@ 0", "over 4"),
+    ("look 1 d@", "link 2 #"),
+    ("list 1 0", "names d@"),
+    ("move 1 d@ 0 e@ 0", "moved"),
+    ("move 0 a@ 0 f@ 0", "moved"),
+    ("remfile 0 e@ 1", "ENOTDIR"),
+    ("remfile 0 e@ 0", "link"),
+    ("addfile 0 g@ 8", "done"),
+    ("remfile 0 g@ 0", "file 8"),
+    ("remdir 0 f@", "done"),
+    ("list 0 0", "names"),
+];
 
 #[test]
 fn names_and_texts_of_each_length(rt: HostRuntime) -> Result<(), Fail> {
     let alloc = rt.alloc();
     for (name, text) in [(1, 1), (9, 9), (10, 10), (100, 255), (255, 4095)] {
-        let long = Lengths { name, text };
+        let rest = repeated(alloc, "n", name - 1)?;
+        let text = repeated(alloc, "t", text)?;
         let mut tree = NameTree::new(alloc, Vec::new(alloc))?;
-        makes(&rt, alloc, &mut tree, long)?;
-        moves(&rt, alloc, &mut tree, long)?;
-        removes(&rt, alloc, &mut tree, long)?;
-        assert_eq!(rt; tree.lines(alloc)?.len(), 1);
+        for (line, expected) in LONG {
+            let line = filled(alloc, line, '@', rest.as_str())?;
+            let line = filled(alloc, line.as_str(), '#', text.as_str())?;
+            let expected = filled(alloc, expected, '@', rest.as_str())?;
+            let expected = filled(alloc, expected.as_str(), '#', text.as_str())?;
+            let step = [(line.as_str(), expected.as_str())];
+            check_steps(&rt, alloc, &mut tree, step.as_slice())?;
+        }
     }
     Ok(())
 }
