@@ -131,26 +131,25 @@ fn mounts_under_a_name_of_255_bytes(rt: HostRuntime) -> Result<(), Fail> {
 /// The root with 700 directories `d100` to `d799`, each with 98 directories `e100` to `e197` and a link `l`.
 fn wide_tree(rt: &impl Abort, alloc: Global) -> Result<NameTree, Fail> {
     let mut tree = NameTree::new(alloc, Vec::new(alloc))?;
-    let mut next = 1;
-    for outer in 100_u64..800 {
-        let directory = DirId::new(next);
-        let name = format!(in alloc; "d{outer}")?;
+    for outer in 0_u64..700 {
+        let id = 1 + 100 * outer;
+        let directory = DirId::new(id);
+        let name = format!(in alloc; "d{}", 100 + outer)?;
         let make = NameOp::Makedir(DirId::ROOT, Name::read(alloc, name.as_bytes())?);
         assert_eq!(rt; tree.apply(&make)?, NameAnswer::MadeDir(directory));
-        for inner in 100_u64..198 {
-            next += 1;
-            let name = format!(in alloc; "e{inner}")?;
+        for inner in 0_u64..98 {
+            let made = DirId::new(id.wrapping_add(1 + inner));
+            let name = format!(in alloc; "e{}", 100 + inner)?;
             let make = NameOp::Makedir(directory, Name::read(alloc, name.as_bytes())?);
-            assert_eq!(rt; tree.apply(&make)?, NameAnswer::MadeDir(DirId::new(next)));
+            assert_eq!(rt; tree.apply(&make)?, NameAnswer::MadeDir(made));
         }
-        next += 1;
+        let made = LinkId::new(id.wrapping_add(99));
         let link = NameOp::Addlink {
             directory,
             name: Name::read(alloc, b"l")?,
             text: PathText::read(alloc, b"t")?,
         };
-        assert_eq!(rt; tree.apply(&link)?, NameAnswer::MadeLink(LinkId::new(next)));
-        next += 1;
+        assert_eq!(rt; tree.apply(&link)?, NameAnswer::MadeLink(made));
     }
     Ok(tree)
 }
