@@ -1,9 +1,8 @@
 use super::check_steps;
 use name_store::{NameAnswer, NameOp, NameTree, Node, TreeLine};
 use std::alloc::{AllocError, Global};
-use std::process::Abort;
 use std::test::Fail;
-use wf_core::{BackendId, DirId, LinkId, Name, PathText};
+use wf_core::{BackendId, DirId, Name};
 
 fn name_of(alloc: Global, first: u8, length: usize) -> Result<Name, Fail> {
     let mut bytes = vec![in alloc; b'n'; length]?;
@@ -125,56 +124,5 @@ fn mounts_under_a_name_of_255_bytes(rt: HostRuntime) -> Result<(), Fail> {
     };
     assert_eq!(rt; *depth, 1);
     assert_eq!(rt; name.as_bytes().len(), 255);
-    Ok(())
-}
-
-/// The root with 700 directories `d100` to `d799`, each with 98 directories `e100` to `e197` and a link `l`.
-fn wide_tree(rt: &impl Abort, alloc: Global) -> Result<NameTree, Fail> {
-    let mut tree = NameTree::new(alloc, Vec::new(alloc))?;
-    for outer in 0_u64..700 {
-        let id = 1 + 100 * outer;
-        let directory = DirId::new(id);
-        let name = format!(in alloc; "d{}", 100 + outer)?;
-        let make = NameOp::Makedir(DirId::ROOT, Name::read(alloc, name.as_bytes())?);
-        assert_eq!(rt; tree.apply(&make)?, NameAnswer::MadeDir(directory));
-        for inner in 0_u64..98 {
-            let made = DirId::new(id.wrapping_add(1 + inner));
-            let name = format!(in alloc; "e{}", 100 + inner)?;
-            let make = NameOp::Makedir(directory, Name::read(alloc, name.as_bytes())?);
-            assert_eq!(rt; tree.apply(&make)?, NameAnswer::MadeDir(made));
-        }
-        let made = LinkId::new(id.wrapping_add(99));
-        let link = NameOp::Addlink {
-            directory,
-            name: Name::read(alloc, b"l")?,
-            text: PathText::read(alloc, b"t")?,
-        };
-        assert_eq!(rt; tree.apply(&link)?, NameAnswer::MadeLink(made));
-    }
-    Ok(tree)
-}
-
-#[test]
-fn lists_the_lines_of_70000_ids(rt: HostRuntime) -> Result<(), Fail> {
-    let alloc = rt.alloc();
-    let tree = wide_tree(&rt, alloc)?;
-    let lines = tree.lines(alloc)?;
-    assert_eq!(rt; lines.len(), 70_001);
-    for (index, line) in lines.as_slice().iter().skip(1).enumerate() {
-        let outer = 100 + index as u64 / 100;
-        let inner = index as u64 % 100;
-        let (expected, expected_depth) = match inner {
-            0 => (format!(in alloc; "d{outer}")?, 1),
-            99 => (format!(in alloc; "l")?, 2),
-            _ => (format!(in alloc; "e{}", 99 + inner)?, 2),
-        };
-        let (depth, name) = match line {
-            TreeLine::Dir { depth, name } if inner < 99 => (*depth, name),
-            TreeLine::Link { depth, name, .. } if inner == 99 => (*depth, name),
-            _ => return Err("a line is of another kind")?,
-        };
-        assert_eq!(rt; depth, expected_depth, "at {index}");
-        assert_eq!(rt; name.as_bytes(), expected.as_bytes(), "at {index}");
-    }
     Ok(())
 }
