@@ -14,6 +14,18 @@ path_max = 4096
 abbrev pub path_names_max : ℕ
 path_names_max = 256
 
+-- the most links that one path may follow
+abbrev pub symloop_max : ℕ
+symloop_max = 40
+
+-- the most bytes of a link's text
+abbrev pub symlink_max : ℕ
+symlink_max = 255
+
+-- the most steps that one file call takes
+abbrev pub call_steps_max : ℕ
+call_steps_max = 1100
+
 -- how many descriptors there are, which are numbered from 0
 abbrev pub open_max : ℕ
 open_max = 1024
@@ -49,3 +61,19 @@ offset_max = 1099511627776
 -- the most bytes of the input of a run
 abbrev pub input_max : ℕ
 input_max = 16777216
+
+-- the most bytes of a trace's line, without the newline that ends it
+abbrev pub line_max : ℕ
+line_max = 8192
+
+-- the most threads of a trace
+abbrev pub threads_max : ℕ
+threads_max = 16
+
+-- the most backends of a trace, the root among them
+abbrev pub backends_max : ℕ
+backends_max = 8
+
+-- the most calls of a trace
+abbrev pub calls_max : ℕ
+calls_max = 8192

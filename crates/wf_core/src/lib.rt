@@ -6,8 +6,9 @@ pub use errno::Errno;
 pub use gate::{Gate, OpenGate};
 pub use ids::{BackendId, DescriptionId, DirId, FileId, LinkId};
 pub use limits::{
-    FILE_MAX, GROUP_COUNT, GROUP_MAX, INPUT_MAX, LIST_MAX, NAME_MAX, OFFSET_MAX, OPEN_MAX,
-    PAGE_SIZE, PATH_MAX, PATH_NAMES_MAX, READ_MAX,
+    BACKENDS_MAX, CALL_STEPS_MAX, CALLS_MAX, FILE_MAX, GROUP_COUNT, GROUP_MAX, INPUT_MAX, LINE_MAX,
+    LIST_MAX, NAME_MAX, OFFSET_MAX, OPEN_MAX, PAGE_SIZE, PATH_MAX, PATH_NAMES_MAX, READ_MAX,
+    SYMLINK_MAX, SYMLOOP_MAX, THREADS_MAX,
 };
 pub use name::{Name, NameRefusal};
 pub use path_text::{PathRefusal, PathText};
