@@ -18,7 +18,7 @@ use Rattle.file_store.specs.declared.file_operation.FileAnswer.TheVariants as an
 use Rattle.file_store.specs.FileBytes.{part, with_bytes_at, with_length}
 use Rattle.file_store.specs.Tables.{Table, row_at, with_row}
 use Rattle.file_store.specs.FileGroups.{Group, FilesOutcome, outcome_of, fstep, file_at, description_at, on_open, open_file_at, open_file_of, open_file_with, attach_outcome, with_files, with_offset, with_description, with_bytes, with_size, put_refusal, cut_refusal, unless_refused, write_offset, write_outcome, write_outcome_on, writeat_outcome, writeat_outcome_from, readat_outcome, readat_answer_from, cut_outcome, cut_outcome_to, can_read, can_write, natural}
-use Rattle.file_store.specs.WriteLaws.{OneChanged, Wrote, Resized, IsWritten, WritesAreRead, CutsKeepTheRest}
+use Rattle.file_store.specs.WriteLaws.{ChangesOne, WritesBytes, Resizes, IsWritten, WritesAreRead, CutsKeepTheRest}
 use Rattle.file_store.proofs.FileBytesLemmas.{length-resized, resized_at, length-overwritten, overwritten_at, length-part, part_at}
 use Rattle.file_store.proofs.WriteLemmas.{overlaid_before, overlaid_after}
 use Rattle.file_store.proofs.TableChanges.{changed_here, changed_other}
@@ -58,7 +58,7 @@ abbrev described : FileAnswer → Option ℕ
 described (answer.Desc id) = Some id
 described _ = None
 
-one_changed : (group after : Group) (id : ℕ) (old new : File) → file_at group id ≡ Some old → new.linked ≡ old.linked → after.files ≡ with_row group.files id new → OneChanged group after id old new
+one_changed : (group after : Group) (id : ℕ) (old new : File) → file_at group id ≡ Some old → new.linked ≡ old.linked → after.files ≡ with_row group.files id new → ChangesOne group after id old new
 one_changed group after id old new there linked e = record {
   was = there;
   is = ap (λ (t : Table File). row_at t id) e ∙ changed_here group.files id new old there;
@@ -77,7 +77,7 @@ written_part old at bytes =
     ∙ ap (λ (xs : List ℕ). take (length bytes) xs) (drop-append_seam (with_length at old) rest)
     ∙ take-append_seam bytes (drop (at + length bytes) old)
 
-wrote : (group after : Group) (id : ℕ) (old : File) (at : ℕ) (bytes : List ℕ) → file_at group id ≡ Some old → after.files ≡ with_bytes group.files id old at bytes → Wrote group after id old (written_file old at bytes) at bytes
+wrote : (group after : Group) (id : ℕ) (old : File) (at : ℕ) (bytes : List ℕ) → file_at group id ≡ Some old → after.files ≡ with_bytes group.files id old at bytes → WritesBytes group after id old (written_file old at bytes) at bytes
 wrote group after id old at bytes there e =
     let byte : ℕ → ℕ = λ i. get_or old.bytes i 0 in
     record {
@@ -89,7 +89,7 @@ wrote group after id old at bytes there e =
       above = λ i high inside. overwritten_at old.bytes at bytes i ∙ overlaid_after byte at bytes i high;
     }
 
-resized : (group after : Group) (id : ℕ) (old : File) (size : ℕ) → file_at group id ≡ Some old → after.files ≡ with_size group.files id old size → Resized group after id old (record old { bytes = with_length size old.bytes }) size
+resized : (group after : Group) (id : ℕ) (old : File) (size : ℕ) → file_at group id ≡ Some old → after.files ≡ with_size group.files id old size → Resizes group after id old (record old { bytes = with_length size old.bytes }) size
 resized group after id old size there e = record {
   one = one_changed group after id old (record old { bytes = with_length size old.bytes }) there refl e;
   size = length-resized size old.bytes;
@@ -126,15 +126,15 @@ write_done group id bytes count at description old is e some =
     by_access : P (write_outcome group id bytes description old)
     by_access = chosen P (can_write description.mode.access) (cond (length bytes == 0) (outcome_of group (answer.Count 0)) (write_outcome_on group id description old (write_offset description old) bytes)) (outcome_of group (answer.Fault Ebadf)) (λ t. by_length) (λ t answered. absurd (false≢true (ap (λ (a : FileAnswer). is_some (counted a)) answered)))
 
-write_at_done : (group : Group) (id : ℕ) (bytes : List ℕ) (offset : ℤ) (at count : ℕ) (description : Description) (old : File) → open_file_at group id ≡ Some (description, old) → natural offset ≡ Some at → 0 < length bytes → (fstep group (op.Writeat id bytes offset)).answer ≡ answer.Count count → (new : File) × Wrote group (fstep group (op.Writeat id bytes offset)).group description.file old new at bytes × ((fstep group (op.Writeat id bytes offset)).group.descriptions ≡ group.descriptions)
+write_at_done : (group : Group) (id : ℕ) (bytes : List ℕ) (offset : ℤ) (at count : ℕ) (description : Description) (old : File) → open_file_at group id ≡ Some (description, old) → natural offset ≡ Some at → 0 < length bytes → (fstep group (op.Writeat id bytes offset)).answer ≡ answer.Count count → (new : File) × WritesBytes group (fstep group (op.Writeat id bytes offset)).group description.file old new at bytes × ((fstep group (op.Writeat id bytes offset)).group.descriptions ≡ group.descriptions)
 write_at_done group id bytes offset at count description old is e some =
     subst (λ (o : Option (Description × File)). P (on_open group (writeat_outcome group bytes offset) o)) (sym is) by_access
   where
     G : Group → Type 0
-    G after = (new : File) × Wrote group after description.file old new at bytes × (after.descriptions ≡ group.descriptions)
+    G after = (new : File) × WritesBytes group after description.file old new at bytes × (after.descriptions ≡ group.descriptions)
 
     P : FilesOutcome → Type 0
-    P o = o.answer ≡ answer.Count count → (new : File) × Wrote group o.group description.file old new at bytes × (o.group.descriptions ≡ group.descriptions)
+    P o = o.answer ≡ answer.Count count → (new : File) × WritesBytes group o.group description.file old new at bytes × (o.group.descriptions ≡ group.descriptions)
 
     there : Opened group id description old
     there = opened_of group id description old is
@@ -165,7 +165,7 @@ found_with_file : (group : Group) (id : ℕ) (description : Description) (file :
 found_with_file group id description file there is =
     ap (λ (found : Option Description). open_file_of group found) there ∙ ap (λ (found : Option File). open_file_with found description) is
 
-read_done : (before after : Group) (file : ℕ) (old new : File) (at : ℕ) (bytes : List ℕ) → Wrote before after file old new at bytes → (reader skip count : ℕ) (description : Description) → description_at after reader ≡ Some description → description.file ≡ file → can_read description.mode.access ≡ true → skip + min count read_max ≤ length bytes → (fstep after (op.Readat reader count (pos (at + skip)))).answer ≡ answer.Bytes (part bytes skip (min count read_max))
+read_done : (before after : Group) (file : ℕ) (old new : File) (at : ℕ) (bytes : List ℕ) → WritesBytes before after file old new at bytes → (reader skip count : ℕ) (description : Description) → description_at after reader ≡ Some description → description.file ≡ file → can_read description.mode.access ≡ true → skip + min count read_max ≤ length bytes → (fstep after (op.Readat reader count (pos (at + skip)))).answer ≡ answer.Bytes (part bytes skip (min count read_max))
 read_done before after file old new at bytes w reader skip count description there same can low =
     let is : file_at after description.file ≡ Some new = ap (λ (n : ℕ). file_at after n) same ∙ w.one.is in
     ap (λ (o : Option (Description × File)). (on_open after (readat_outcome after count (pos (at + skip))) o).answer) (found_with_file after reader description new there is)
@@ -180,15 +180,15 @@ writes_are_read = record {
   read_at = read_done;
 }
 
-cut_done : (group : Group) (id : ℕ) (size : ℤ) (n : ℕ) (description : Description) (old : File) → open_file_at group id ≡ Some (description, old) → natural size ≡ Some n → (fstep group (op.Cut id size)).answer ≡ answer.Done → (new : File) × Resized group (fstep group (op.Cut id size)).group description.file old new n × ((fstep group (op.Cut id size)).group.descriptions ≡ group.descriptions)
+cut_done : (group : Group) (id : ℕ) (size : ℤ) (n : ℕ) (description : Description) (old : File) → open_file_at group id ≡ Some (description, old) → natural size ≡ Some n → (fstep group (op.Cut id size)).answer ≡ answer.Done → (new : File) × Resizes group (fstep group (op.Cut id size)).group description.file old new n × ((fstep group (op.Cut id size)).group.descriptions ≡ group.descriptions)
 cut_done group id size n description old is e =
     subst (λ (o : Option (Description × File)). P (on_open group (cut_outcome group size) o)) (sym is) by_access
   where
     G : Group → Type 0
-    G after = (new : File) × Resized group after description.file old new n × (after.descriptions ≡ group.descriptions)
+    G after = (new : File) × Resizes group after description.file old new n × (after.descriptions ≡ group.descriptions)
 
     P : FilesOutcome → Type 0
-    P o = o.answer ≡ answer.Done → (new : File) × Resized group o.group description.file old new n × (o.group.descriptions ≡ group.descriptions)
+    P o = o.answer ≡ answer.Done → (new : File) × Resizes group o.group description.file old new n × (o.group.descriptions ≡ group.descriptions)
 
     there : Opened group id description old
     there = opened_of group id description old is
@@ -209,12 +209,12 @@ cut_done group id size n description old is e =
 nothing_left : (bytes : List ℕ) → with_length 0 bytes ≡ []
 nothing_left bytes = let none : 0 - length bytes ≡ 0 = omega arith in same_number_lists (with_length 0 bytes) [] (length-resized 0 bytes) (λ k low. absurd (omega (arith, low, length-resized 0 bytes)))
 
-truncated : (group : Group) (file : ℕ) (mode : Mode) (description : ℕ) (old : File) → file_at group file ≡ Some old → (fstep group (op.Attach file mode true)).answer ≡ answer.Desc description → (new : File) × Resized group (fstep group (op.Attach file mode true)).group file old new 0
+truncated : (group : Group) (file : ℕ) (mode : Mode) (description : ℕ) (old : File) → file_at group file ≡ Some old → (fstep group (op.Attach file mode true)).answer ≡ answer.Desc description → (new : File) × Resizes group (fstep group (op.Attach file mode true)).group file old new 0
 truncated group file mode description old is =
     subst (λ (found : Option File). P (attach_outcome group file mode true found)) (sym is) (chosen P old.linked done (outcome_of group answer.Gone) (λ t answered. (record old { bytes = with_length 0 old.bytes }, resized group done.group file old 0 is (ap (λ (bytes : List ℕ). with_row group.files file (record old { bytes = bytes })) (sym (nothing_left old.bytes))))) (λ t answered. absurd (false≢true (ap (λ (a : FileAnswer). is_some (described a)) answered))))
   where
     P : FilesOutcome → Type 0
-    P o = o.answer ≡ answer.Desc description → (new : File) × Resized group o.group file old new 0
+    P o = o.answer ≡ answer.Desc description → (new : File) × Resizes group o.group file old new 0
 
     done : FilesOutcome
     done = record { group = with_description (with_files group (with_row group.files file (record old { bytes = [] }))) file mode; answer = answer.Desc group.descriptions.next }

@@ -2,6 +2,7 @@ ghost use Rattle.std.specs.Prelude.{◌≡◌, ℕ, ◌≤◌, ◌+ℤ◌, pos, 
 ghost use Rattle.std.specs.Option.{option_map};
 ghost use Rattle.file_store.specs.FileGroups.{opening, open_file_at, on_open, outcome_of, file_at, description_at, make_outcome, attach_outcome, sizeof_answer, files_after_unlink, with_files, is_open, release_outcome, group_after_release, read_outcome, readat_outcome, write_outcome, writeat_outcome, seek_outcome, cut_outcome, size_outcome, natural, write_offset, seek_base, seek_offset, fstep, total_pages};
 ghost use Rattle.file_store.specs.FileForms.{IsSpare};
+ghost use Rattle.file_store.specs.Sound.{IsSound};
 
 use crate::description_table::DescriptionTable;
 use crate::file::{Description, File};
@@ -46,6 +47,7 @@ impl FileGroup {
 
     /// Takes one step, which is the definition's. Want of memory changes nothing.
     pub(crate) fn step(&mut self, op: &FileOp) -> Result<FileAnswer, AllocError>
+        requires { IsSound self.old }
         ensures ok { IfOk result
             (λ answer. fstep self.old op.now ≡ record { group = self.new; answer = answer }) }
         ensures err { OnErr result (self.new ≡ self.old) }
@@ -172,6 +174,7 @@ impl FileGroup {
     }
 
     fn release(&mut self, id: DescriptionId) -> FileAnswer
+        requires { IsSound self.old }
         ensures { release_outcome self.old id (description_at self.old id)
             ≡ record { group = self.new; answer = result } }
     {
@@ -183,12 +186,13 @@ impl FileGroup {
         FileAnswer::Done
     }
 
-    /// Frees a file that is neither linked nor open.
+    /// Frees a file that is there where it is neither linked nor open.
     fn sweep(&mut self, file: FileId)
+        requires { IsSome (file_at self.old file) }
         ensures { self.new ≡ group_after_release self.old self.old.descriptions file }
     {
         let Some(found) = self.files.get(file) else {
-            return;
+            unreachable!()
         };
         if found.linked || self.descriptions.is_open(file) {
             return;
