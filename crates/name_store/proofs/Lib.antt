@@ -3,6 +3,7 @@ pub mod Slots
 pub mod Formed
 pub mod Entries
 pub mod Changes
+pub mod PresenceLemmas
 pub mod Climbs
 pub mod Edits
 pub mod Transitions

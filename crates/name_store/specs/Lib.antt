@@ -1,6 +1,7 @@
 pub mod NameTrees
 pub mod Forms
 pub mod Sound
+pub mod Presence
 pub mod Laws
 pub mod EntryLaws
 pub mod IdLaws

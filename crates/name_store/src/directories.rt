@@ -1,5 +1,6 @@
 ghost use Rattle.std.specs.Prelude.{◌≡◌, ◌<◌, ℕ, ◌∷◌, [], length, None, IsSome, IfOk, OnOk, OnErr, option_copied, option_map};
 ghost use Rattle.name_store.specs.NameTrees.{Tree, dir_at, with_entry_at, without_directory, with_new_directory, is_empty, is_inside, with_new_link, opening, with_parent_at, without_entry_at, up, with_entry};
+ghost use Rattle.name_store.specs.Presence.{IsThere};
 
 use crate::directory::Directory;
 use crate::operation::Node;
@@ -92,68 +93,53 @@ impl Directories {
         false
     }
 
-    /// Enters a node in a directory, where there is one, under that name, in the place of what is there.
+    /// Enters a node in a directory that is there, under that name, in the place of what is there.
     pub(crate) fn enter(&mut self, id: DirId, name: Name, node: Node) -> Result<(), AllocError>
+        requires { IsSome (dir_at self.old id) }
         ensures ok { OnOk result (self.new ≡ with_entry_at self.old id name node) }
         ensures err { OnErr result (self.new ≡ self.old) }
     {
-        let index = id.number() as usize;
-        if index >= self.slots.len() {
-            return Ok(());
-        }
-        enter_slot(&mut self.slots[index], name, node)
+        enter_slot(&mut self.slots[id.number() as usize], name, node)
     }
 
-    /// Takes an entry out of a directory, where there is one.
+    /// Takes an entry out of a directory that is there.
     pub(crate) fn unlink(&mut self, id: DirId, name: &Name)
+        requires { IsSome (dir_at self.old id) }
         ensures { self.new ≡ without_entry_at self.old id name.now }
     {
-        let index = id.number() as usize;
-        if index >= self.slots.len() {
-            return;
-        }
-        let slot = &mut self.slots[index];
-        let Some(directory) = slot else {
-            return;
+        let Some(directory) = &mut self.slots[id.number() as usize] else {
+            unreachable!()
         };
         directory.unlink(name);
     }
 
-    /// Gives a directory, where there is one, its new parent.
+    /// Gives a directory that is there, where one is given, its new parent.
     pub(crate) fn set_parent(&mut self, child: Option<DirId>, parent: DirId)
+        requires { IsThere self.old child }
         ensures { self.new ≡ with_parent_at self.old child parent }
     {
         let Some(id) = child else {
             return;
         };
-        let index = id.number() as usize;
-        if index >= self.slots.len() {
-            return;
-        }
-        let slot = &mut self.slots[index];
-        let Some(directory) = slot else {
-            return;
+        let Some(directory) = &mut self.slots[id.number() as usize] else {
+            unreachable!()
         };
         directory.set_parent(parent);
     }
 
-    /// Ends a directory, where there is one. Its id is not used again.
+    /// Ends a directory that is there, where one is given. Its id is not used again.
     pub(crate) fn free(&mut self, child: Option<DirId>)
+        requires { IsThere self.old child }
         ensures { self.new ≡ without_directory self.old child }
     {
-        let Some(id) = child else {
-            return;
-        };
-        let index = id.number() as usize;
-        if index >= self.slots.len() {
-            return;
+        if let Some(id) = child {
+            self.slots[id.number() as usize] = None;
         }
-        self.slots[index] = None;
     }
 
     /// Makes an empty directory under that name in a directory.
     pub(crate) fn grow(&mut self, id: DirId, name: Name) -> Result<DirId, AllocError>
-        requires { id < length self.old }
+        requires { IsSome (dir_at self.old id) }
         ensures made { IfOk result (λ made. made ≡ length self.old) }
         ensures ok { OnOk result (self.new ≡ with_new_directory self.old id name) }
         ensures err { OnErr result (self.new ≡ self.old) }
@@ -173,7 +159,7 @@ impl Directories {
         name: Name,
         text: PathText,
     ) -> Result<LinkId, AllocError>
-        requires { id < length self.old }
+        requires { IsSome (dir_at self.old id) }
         ensures made { IfOk result (λ made. made ≡ length self.old) }
         ensures ok { OnOk result (self.new ≡ with_new_link self.old id name text) }
         ensures err { OnErr result (self.new ≡ self.old) }
@@ -190,14 +176,15 @@ impl Directories {
     }
 }
 
-/// Enters a node in the directory of a slot, where there is one.
+/// Enters a node in the directory of a slot that has one.
 fn enter_slot(slot: &mut Option<Directory>, name: Name, node: Node) -> Result<(), AllocError>
+    requires { IsSome slot.old }
     ensures ok { OnOk result
         (slot.new ≡ option_map (λ directory. with_entry directory name node) slot.old) }
     ensures err { OnErr result (slot.new ≡ slot.old) }
 {
     match slot {
         Some(directory) => directory.enter(name, node),
-        None => Ok(()),
+        None => unreachable!(),
     }
 }

@@ -60,7 +60,7 @@ impl Directories {
             return Ok(NameAnswer::Gone);
         };
         if let Some(node) = directory.entry(name) {
-            return Ok(NameAnswer::Taken(node.clone()?));
+            return Ok(NameAnswer::Taken(node.copy()?));
         }
         self.enter(id, name.clone()?, Node::File(file))?;
         Ok(NameAnswer::Done)

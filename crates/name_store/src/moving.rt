@@ -1,5 +1,7 @@
 ghost use Rattle.std.specs.Prelude.{◌≡◌, IfOk, OnOk, OnErr, option_copied};
 ghost use Rattle.name_store.specs.NameTrees.{dir_at, dir_in, dir_of, with_entry_at, without_directory, is_same_entry, mount_fault, move_answer, move_fault, move_outcome, over_fault, unless_gone, with_parent_at, without_entry_at};
+ghost use Rattle.name_store.specs.Sound.{IsSound};
+ghost use Rattle.name_store.specs.Presence.{AreThere};
 
 use crate::directories::Directories;
 use crate::operation::{NameAnswer, Node};
@@ -16,6 +18,7 @@ impl Directories {
         new_name: &Name,
         slash: bool,
     ) -> Result<NameAnswer, AllocError>
+        requires { IsSound self.old }
         ensures ok { IfOk result (λ answer. unless_gone self.old (dir_at self.old from) (λ source.
             unless_gone self.old (dir_at self.old to)
             (move_outcome self.old from name.now to new_name.now slash source))
@@ -46,7 +49,7 @@ impl Directories {
         }
         let answer = move_answer(over);
         let replaced = directory_in(over);
-        let node = node.clone()?;
+        let node = node.copy()?;
         self.relocate(from, name, to, new_name.clone()?, node, replaced)?;
         Ok(answer)
     }
@@ -85,6 +88,7 @@ impl Directories {
         node: Node,
         replaced: Option<DirId>,
     ) -> Result<(), AllocError>
+        requires { AreThere self.old from to (dir_of node) replaced }
         ensures ok { OnOk result (self.new ≡ without_directory (with_parent_at
             (without_entry_at (with_entry_at self.old to new_name node) from name.now)
             (dir_of node) to) replaced) }

@@ -7,7 +7,7 @@ use std::alloc::AllocError;
 use wf_core::{BackendId, DirId, Errno, FileId, LinkId, Name, PathText};
 
 /// What an entry of a directory is.
-#[derive(Clone, Debug, PartialEq, Eq, Drop)]
+#[derive(Debug, PartialEq, Eq, Drop)]
 pub enum Node {
     Dir(DirId),
     /// A link, and the path that it leads to.

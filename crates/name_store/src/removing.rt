@@ -1,5 +1,6 @@
 ghost use Rattle.std.specs.Prelude.{◌≡◌};
 ghost use Rattle.name_store.specs.NameTrees.{dir_at, remdir_outcome, remfile_outcome, unless_gone};
+ghost use Rattle.name_store.specs.Sound.{IsSound};
 
 use crate::directories::Directories;
 use crate::operation::{NameAnswer, Node};
@@ -25,6 +26,7 @@ impl Directories {
     }
 
     pub(crate) fn remdir(&mut self, id: DirId, name: &Name) -> NameAnswer
+        requires { IsSound self.old }
         ensures { unless_gone self.old (dir_at self.old id) (remdir_outcome self.old id name.now)
             ≡ record { tree = self.new; answer = result } }
     {

@@ -1,5 +1,6 @@
 ghost use Rattle.std.specs.Prelude.{◌≡◌, IfOk, IsOk, OnErr};
 ghost use Rattle.name_store.specs.NameTrees.{dir_at, list_answer, look_answer, nstep, outcome_of, parent_answer, unless_gone};
+ghost use Rattle.name_store.specs.Sound.{IsSound};
 ghost use Rattle.name_store.specs.Forms.{HasNoText, IsForm, IsSpare};
 
 use crate::directories::Directories;
@@ -10,6 +11,7 @@ use wf_core::{DirId, Name};
 impl Directories {
     /// Takes one step, which is the definition's. Want of memory changes nothing.
     pub(crate) fn step(&mut self, op: &NameOp) -> Result<NameAnswer, AllocError>
+        requires { IsSound self.old }
         ensures ok { IfOk result
             (λ answer. nstep self.old op.now ≡ record { tree = self.new; answer = answer }) }
         ensures form { IfOk result (IsForm op.now) }

@@ -1,5 +1,6 @@
 use Rattle.std.proofs.Common.{refl, ◌∙◌}
 use Rattle.name_store.specs.declared.operation.Node.TheVariants.{Link}
+use Rattle.name_store.proofs.PresenceLemmas.{within}
 use Rattle.name_store.proofs.Slots.{grew}
 use Rattle.name_store.proofs.directories.Directories.link.Goals as goal
 
@@ -9,7 +10,7 @@ returns-clause-ok c =
     c.number.ensures
     (c.in_ok-reserve.ensures.items ∙ c.self.view_is)
     (c.new-made.ensures ∙ c.next_id.ensures)
-    c.requires
+    (within c.args.self.now c.args.id c.requires)
     c.index_mut.ensures.value
     c.in_ok-enter_slot.ensures.ok
     refl
