@@ -98,8 +98,8 @@ fn answer_text(alloc: Global, answer: &NameAnswer) -> Result<Vec<u8>, AllocError
         NameAnswer::Gone => out.extend_from_slice(b"gone")?,
         NameAnswer::Absent => out.extend_from_slice(b"absent")?,
         NameAnswer::Found(node) => push_node(&mut out, node)?,
-        NameAnswer::MadeDir(id) => push_number(&mut out, "dir", id.number())?,
-        NameAnswer::MadeLink(id) => push_number(&mut out, "link", id.number())?,
+        NameAnswer::MadeDir(id) => push_number(&mut out, "made", id.number())?,
+        NameAnswer::MadeLink(id) => push_number(&mut out, "made", id.number())?,
         NameAnswer::Taken(node) => {
             out.extend_from_slice(b"taken ")?;
             push_node(&mut out, node)?;

@@ -1,9 +1,9 @@
-use super::steps::{BOTH, Step, Told, expect_all};
-use file_store::{FileAnswer, FileOp, Files, Whence};
+use super::steps::{expect, expect_all};
+use file_store::{FileAnswer, FileOp, Files};
 use std::alloc::{AllocError, Global};
 use std::process::Abort;
 use std::test::Fail;
-use wf_core::{DescriptionId, Errno, Text};
+use wf_core::{DescriptionId, Text};
 
 /// Bytes other than 0, in which no two pages that follow one another are alike.
 fn pattern(alloc: Global, count: usize) -> Result<Vec<u8>, AllocError> {
@@ -21,12 +21,13 @@ fn expect_contents(
     files: &mut Files,
     id: u64,
     bytes: &[u8],
-) -> Result<(), AllocError> {
-    expect_all(
+) -> Result<(), Fail> {
+    expect(
         rt,
         alloc,
         files,
-        &[(Step::Seek(id, 0, Whence::Set), Told::At(0))],
+        &format!(in alloc; "seek {id} 0 set")?,
+        "at 0",
     )?;
     let read = FileOp::Read {
         description: DescriptionId::new(id),
@@ -38,17 +39,28 @@ fn expect_contents(
             answer => panic!(rt; "{answer:?}"),
         }
     }
-    expect_all(rt, alloc, files, &[(Step::Read(id, 1), Told::Bytes(""))])
+    expect(
+        rt,
+        alloc,
+        files,
+        &format!(in alloc; "read {id} 1")?,
+        "bytes %_",
+    )
 }
+
+const FOUR_FILES: [(&str, &str); 4] = [
+    ("make rw", "file 0 0"),
+    ("make rw", "file 4 4"),
+    ("make rw", "file 8 8"),
+    ("make rw", "file 12 12"),
+];
 
 /// Four files of 16,777,216 bytes other than 0, which are the most that a group has.
 #[test]
 fn bytes_of_a_group(rt: HostRuntime) -> Result<(), Fail> {
     let alloc = rt.alloc();
     let mut files = Files::new(alloc, 0);
-    for _ in 0..4 {
-        files.apply(&FileOp::Make(BOTH))?;
-    }
+    expect_all(&rt, alloc, &mut files, &FOUR_FILES)?;
     for id in [0, 4] {
         let write = FileOp::Write {
             description: DescriptionId::new(id),
@@ -78,66 +90,89 @@ fn count_of_files(rt: HostRuntime) -> Result<(), Fail> {
     let alloc = rt.alloc();
     let mut files = Files::new(alloc, 3);
     for i in 0..1_024u32 {
-        let id = 4 * u64::from(i) + 3;
-        let cases = [
-            (Step::Make(BOTH), Told::File(id, id)),
-            (Step::Writeat(id, "x", i64::from(i)), Told::Count(1)),
-        ];
-        expect_all(&rt, alloc, &mut files, &cases)?;
+        let id = 4 * i + 3;
+        let made = format!(in alloc; "file {id} {id}")?;
+        expect(&rt, alloc, &mut files, "make rw", &made)?;
+        let write = format!(in alloc; "writeat {id} x {i}")?;
+        expect(&rt, alloc, &mut files, &write, "count 1")?;
     }
     assert_eq!(&rt; files.pages(), 1_024);
     for i in 0..1_024u32 {
-        let id = 4 * u64::from(i) + 3;
-        let cases = [
-            (Step::Sizeof(id), Told::Size(u64::from(i) + 1)),
-            (Step::Readat(id, 2, i64::from(i)), Told::Bytes("x")),
-            (Step::Release(id), Told::Done),
-            (Step::Unlinked(id), Told::Done),
-            (Step::Sizeof(id), Told::Gone),
-        ];
-        expect_all(&rt, alloc, &mut files, &cases)?;
+        let id = 4 * i + 3;
+        let size = format!(in alloc; "size {}", i + 1)?;
+        expect(
+            &rt,
+            alloc,
+            &mut files,
+            &format!(in alloc; "sizeof {id}")?,
+            &size,
+        )?;
+        let read = format!(in alloc; "readat {id} 2 {i}")?;
+        expect(&rt, alloc, &mut files, &read, "bytes x")?;
+        expect(
+            &rt,
+            alloc,
+            &mut files,
+            &format!(in alloc; "release {id}")?,
+            "done",
+        )?;
+        expect(
+            &rt,
+            alloc,
+            &mut files,
+            &format!(in alloc; "unlinked {id}")?,
+            "done",
+        )?;
+        expect(
+            &rt,
+            alloc,
+            &mut files,
+            &format!(in alloc; "sizeof {id}")?,
+            "gone",
+        )?;
     }
     assert_eq!(&rt; files.pages(), 0);
     Ok(())
 }
+
+const ENDS: [(&str, &str); 3] = [
+    ("size 3", "size 0"),
+    ("release 3", "done"),
+    ("size 3", "EBADF"),
+];
 
 /// 1,024 descriptions of one file, of which each has an offset of its own.
 #[test]
 fn count_of_descriptions(rt: HostRuntime) -> Result<(), Fail> {
     let alloc = rt.alloc();
     let mut files = Files::new(alloc, 3);
-    expect_all(
-        &rt,
-        alloc,
-        &mut files,
-        &[(Step::Make(BOTH), Told::File(3, 3))],
-    )?;
+    expect(&rt, alloc, &mut files, "make rw", "file 3 3")?;
     for i in 1..1_024u32 {
-        let id = 4 * u64::from(i) + 3;
-        let cases = [
-            (Step::Attach(3, BOTH, false), Told::Desc(id)),
-            (
-                Step::Seek(id, i64::from(i), Whence::Set),
-                Told::At(u64::from(i)),
-            ),
-        ];
-        expect_all(&rt, alloc, &mut files, &cases)?;
+        let id = 4 * i + 3;
+        let made = format!(in alloc; "desc {id}")?;
+        expect(&rt, alloc, &mut files, "attach 3 rw 0", &made)?;
+        let seek = format!(in alloc; "seek {id} {i} set")?;
+        expect(&rt, alloc, &mut files, &seek, &format!(in alloc; "at {i}")?)?;
     }
-    expect_all(&rt, alloc, &mut files, &[(Step::Unlinked(3), Told::Done)])?;
+    expect(&rt, alloc, &mut files, "unlinked 3", "done")?;
     for i in 1..1_024u32 {
-        let id = 4 * u64::from(i) + 3;
-        let cases = [
-            (Step::Seek(id, 0, Whence::Cur), Told::At(u64::from(i))),
-            (Step::Release(id), Told::Done),
-            (Step::Size(id), Told::Fault(Errno::Ebadf)),
-        ];
-        expect_all(&rt, alloc, &mut files, &cases)?;
+        let id = 4 * i + 3;
+        let seek = format!(in alloc; "seek {id} 0 cur")?;
+        expect(&rt, alloc, &mut files, &seek, &format!(in alloc; "at {i}")?)?;
+        expect(
+            &rt,
+            alloc,
+            &mut files,
+            &format!(in alloc; "release {id}")?,
+            "done",
+        )?;
+        expect(
+            &rt,
+            alloc,
+            &mut files,
+            &format!(in alloc; "size {id}")?,
+            "EBADF",
+        )?;
     }
-    let cases = [
-        (Step::Size(3), Told::Size(0)),
-        (Step::Release(3), Told::Done),
-        (Step::Size(3), Told::Fault(Errno::Ebadf)),
-    ];
-    expect_all(&rt, alloc, &mut files, &cases)?;
-    Ok(())
+    expect_all(&rt, alloc, &mut files, &ENDS)
 }

@@ -1,149 +1,174 @@
+//! Operations on descriptors and their answers as lines of words, as `fill 0 file 2 5`.
+
+use super::steps::word;
 use file_store::{Descriptors, FdAnswer, FdOp};
+use std::alloc::{AllocError, Global};
 use std::process::Abort;
 use std::test::Fail;
-use wf_core::{BackendId, DescriptionId, DirId, Errno};
+use wf_core::{BackendId, DescriptionId, DirId};
 
-const BAD: FdAnswer = FdAnswer::Fault(Errno::Ebadf);
-
-fn fill_file(number: u32, backend: u32, description: u64) -> FdOp {
-    FdOp::FillFile {
-        number,
-        backend: BackendId::new(backend),
-        description: DescriptionId::new(description),
+/// What a number is filled with, from its words.
+fn fill(number: u32, kind: &str, backend: u32, id: u64) -> FdOp {
+    let backend = BackendId::new(backend);
+    if kind == "file" {
+        return FdOp::FillFile {
+            number,
+            backend,
+            description: DescriptionId::new(id),
+        };
     }
-}
-
-fn fill_dir(number: u32, backend: u32, dir: u64) -> FdOp {
     FdOp::FillDir {
         number,
-        backend: BackendId::new(backend),
-        dir: DirId::new(dir),
+        backend,
+        dir: DirId::new(id),
     }
 }
 
-fn copy_to(number: u32, target: u32) -> FdOp {
-    FdOp::Copyto { number, target }
+fn read_op(line: &str) -> Result<FdOp, Fail> {
+    let mut words = line.split(' ');
+    let operation = word(words.next())?;
+    if operation == "reserve" {
+        return Ok(FdOp::Reserve);
+    }
+    let number = word(words.next())?.parse::<u32>()?;
+    Ok(match operation {
+        "fill" => {
+            let kind = word(words.next())?;
+            let backend = word(words.next())?.parse::<u32>()?;
+            fill(number, kind, backend, word(words.next())?.parse::<u64>()?)
+        }
+        "drop" => FdOp::Drop(number),
+        "look" => FdOp::Look(number),
+        "copy" => FdOp::Copy(number),
+        "copyto" => FdOp::Copyto {
+            number,
+            target: word(words.next())?.parse::<u32>()?,
+        },
+        _ => FdOp::Take(number),
+    })
 }
 
-fn file(backend: u32, description: u64) -> FdAnswer {
-    FdAnswer::File {
-        backend: BackendId::new(backend),
-        description: DescriptionId::new(description),
+fn answer_text(alloc: Global, answer: &FdAnswer) -> Result<String, AllocError> {
+    match answer {
+        FdAnswer::Fd(number) => format!(in alloc; "fd {number}"),
+        FdAnswer::FdLast {
+            number,
+            backend,
+            description,
+        } => {
+            format!(in alloc;
+                "fd {number} last {} {}",
+                backend.number(),
+                description.number()
+            )
+        }
+        FdAnswer::Done => format!(in alloc; "done"),
+        FdAnswer::Last {
+            backend,
+            description,
+        } => format!(in alloc; "last {} {}", backend.number(), description.number()),
+        FdAnswer::File {
+            backend,
+            description,
+        } => format!(in alloc; "file {} {}", backend.number(), description.number()),
+        FdAnswer::Dir { backend, dir } => {
+            format!(in alloc; "dir {} {}", backend.number(), dir.number())
+        }
+        FdAnswer::Fault(error) => format!(in alloc; "{}", error.word()),
     }
 }
 
-fn dir(backend: u32, dir: u64) -> FdAnswer {
-    FdAnswer::Dir {
-        backend: BackendId::new(backend),
-        dir: DirId::new(dir),
+fn expect_all(
+    rt: &impl Abort,
+    alloc: Global,
+    map: &mut Descriptors,
+    cases: &[(&str, &str)],
+) -> Result<(), Fail> {
+    for (line, expected) in cases {
+        let answer = answer_text(alloc, &map.apply(&read_op(line)?))?;
+        assert_eq!(rt; answer.as_str(), *expected, "at {line}");
     }
+    Ok(())
 }
 
-fn last(backend: u32, description: u64) -> FdAnswer {
-    FdAnswer::Last {
-        backend: BackendId::new(backend),
-        description: DescriptionId::new(description),
-    }
-}
+const RESERVES_AND_FILLS: [(&str, &str); 17] = [
+    ("reserve", "fd 0"),
+    ("reserve", "fd 1"),
+    ("look 0", "EBADF"),
+    ("fill 0 file 2 5", "done"),
+    ("look 0", "file 2 5"),
+    // Only a reserved number is filled or dropped.
+    ("fill 0 file 3 6", "done"),
+    ("fill 0 dir 3 6", "done"),
+    ("drop 0", "done"),
+    ("look 0", "file 2 5"),
+    ("fill 9 dir 1 7", "done"),
+    ("look 9", "EBADF"),
+    ("fill 1 dir 1 7", "done"),
+    ("look 1", "dir 1 7"),
+    ("look 4294967295", "EBADF"),
+    // A dropped number is the lowest free one again.
+    ("reserve", "fd 2"),
+    ("drop 2", "done"),
+    ("reserve", "fd 2"),
+];
 
-fn fd_last(number: u32, backend: u32, description: u64) -> FdAnswer {
-    FdAnswer::FdLast {
-        number,
-        backend: BackendId::new(backend),
-        description: DescriptionId::new(description),
-    }
-}
-
-fn expect_all(rt: &impl Abort, map: &mut Descriptors, cases: &[(FdOp, FdAnswer)]) {
-    for (op, answer) in cases {
-        assert_eq!(rt; map.apply(op), *answer, "{op:?}");
-    }
-}
-
-fn reserves_and_fills() -> [(FdOp, FdAnswer); 17] {
-    [
-        (FdOp::Reserve, FdAnswer::Fd(0)),
-        (FdOp::Reserve, FdAnswer::Fd(1)),
-        (FdOp::Look(0), BAD),
-        (fill_file(0, 2, 5), FdAnswer::Done),
-        (FdOp::Look(0), file(2, 5)),
-        // Only a reserved number is filled or dropped.
-        (fill_file(0, 3, 6), FdAnswer::Done),
-        (fill_dir(0, 3, 6), FdAnswer::Done),
-        (FdOp::Drop(0), FdAnswer::Done),
-        (FdOp::Look(0), file(2, 5)),
-        (fill_dir(9, 1, 7), FdAnswer::Done),
-        (FdOp::Look(9), BAD),
-        (fill_dir(1, 1, 7), FdAnswer::Done),
-        (FdOp::Look(1), dir(1, 7)),
-        (FdOp::Look(4_294_967_295), BAD),
-        // A dropped number is the lowest free one again.
-        (FdOp::Reserve, FdAnswer::Fd(2)),
-        (FdOp::Drop(2), FdAnswer::Done),
-        (FdOp::Reserve, FdAnswer::Fd(2)),
-    ]
-}
-
-fn copies_and_takes() -> [(FdOp, FdAnswer); 22] {
-    [
-        (FdOp::Copy(0), FdAnswer::Fd(3)),
-        (FdOp::Look(3), file(2, 5)),
-        (FdOp::Copy(2), BAD),
-        (FdOp::Copy(9), BAD),
-        (copy_to(9, 4), BAD),
-        (copy_to(2, 2), BAD),
-        (copy_to(0, 1_024), BAD),
-        (copy_to(0, 2), FdAnswer::Fault(Errno::Ebusy)),
-        (copy_to(0, 0), FdAnswer::Fd(0)),
-        (copy_to(0, 5), FdAnswer::Fd(5)),
-        (copy_to(1, 5), FdAnswer::Fd(5)),
-        (copy_to(0, 3), FdAnswer::Fd(3)),
-        (copy_to(1, 3), FdAnswer::Fd(3)),
-        (copy_to(1, 0), fd_last(0, 2, 5)),
-        (FdOp::Look(0), dir(1, 7)),
-        (FdOp::Take(5), FdAnswer::Done),
-        (FdOp::Take(5), BAD),
-        (FdOp::Take(2), BAD),
-        // The last number of a description tells it.
-        (fill_file(2, 2, 8), FdAnswer::Done),
-        (FdOp::Copy(2), FdAnswer::Fd(4)),
-        (FdOp::Take(2), FdAnswer::Done),
-        (FdOp::Take(4), last(2, 8)),
-    ]
-}
+const COPIES_AND_TAKES: [(&str, &str); 22] = [
+    ("copy 0", "fd 3"),
+    ("look 3", "file 2 5"),
+    ("copy 2", "EBADF"),
+    ("copy 9", "EBADF"),
+    ("copyto 9 4", "EBADF"),
+    ("copyto 2 2", "EBADF"),
+    ("copyto 0 1024", "EBADF"),
+    ("copyto 0 2", "EBUSY"),
+    ("copyto 0 0", "fd 0"),
+    ("copyto 0 5", "fd 5"),
+    ("copyto 1 5", "fd 5"),
+    ("copyto 0 3", "fd 3"),
+    ("copyto 1 3", "fd 3"),
+    ("copyto 1 0", "fd 0 last 2 5"),
+    ("look 0", "dir 1 7"),
+    ("take 5", "done"),
+    ("take 5", "EBADF"),
+    ("take 2", "EBADF"),
+    // The last number of a description tells it.
+    ("fill 2 file 2 8", "done"),
+    ("copy 2", "fd 4"),
+    ("take 2", "done"),
+    ("take 4", "last 2 8"),
+];
 
 /// Each answer of each operation.
 #[test]
 fn answers_of_each_operation(rt: HostRuntime) -> Result<(), Fail> {
-    let mut map = Descriptors::new(rt.alloc())?;
-    expect_all(&rt, &mut map, &reserves_and_fills());
-    expect_all(&rt, &mut map, &copies_and_takes());
-    Ok(())
+    let alloc = rt.alloc();
+    let mut map = Descriptors::new(alloc)?;
+    expect_all(&rt, alloc, &mut map, &RESERVES_AND_FILLS)?;
+    expect_all(&rt, alloc, &mut map, &COPIES_AND_TAKES)
 }
 
-fn full() -> [(FdOp, FdAnswer); 11] {
-    [
-        (FdOp::Reserve, FdAnswer::Fault(Errno::Emfile)),
-        (fill_file(1_023, 0, 4), FdAnswer::Done),
-        (FdOp::Copy(1_023), FdAnswer::Fault(Errno::Emfile)),
-        (copy_to(1_023, 1_024), BAD),
-        (FdOp::Drop(700), FdAnswer::Done),
-        (FdOp::Drop(64), FdAnswer::Done),
-        (FdOp::Copy(1_023), FdAnswer::Fd(64)),
-        (copy_to(64, 1_023), FdAnswer::Fd(1_023)),
-        (FdOp::Reserve, FdAnswer::Fd(700)),
-        (FdOp::Take(1_023), FdAnswer::Done),
-        (FdOp::Take(64), last(0, 4)),
-    ]
-}
+const FULL: [(&str, &str); 11] = [
+    ("reserve", "EMFILE"),
+    ("fill 1023 file 0 4", "done"),
+    ("copy 1023", "EMFILE"),
+    ("copyto 1023 1024", "EBADF"),
+    ("drop 700", "done"),
+    ("drop 64", "done"),
+    ("copy 1023", "fd 64"),
+    ("copyto 64 1023", "fd 1023"),
+    ("reserve", "fd 700"),
+    ("take 1023", "done"),
+    ("take 64", "last 0 4"),
+];
 
 /// The numbers are 0 to 1,023.
 #[test]
 fn numbers_end(rt: HostRuntime) -> Result<(), Fail> {
-    let mut map = Descriptors::new(rt.alloc())?;
+    let alloc = rt.alloc();
+    let mut map = Descriptors::new(alloc)?;
     for number in 0..1_024 {
         assert_eq!(rt; map.apply(&FdOp::Reserve), FdAnswer::Fd(number));
     }
-    expect_all(&rt, &mut map, &full());
-    Ok(())
+    expect_all(&rt, alloc, &mut map, &FULL)
 }

@@ -1,32 +1,26 @@
-use super::steps::{BOTH, Step, Told, expect_all};
-use file_store::{FileAnswer, FileOp, Files, Whence};
+use super::steps::{expect, expect_all};
+use file_store::{FileAnswer, FileOp, Files};
 use std::test::Fail;
-use wf_core::{DescriptionId, Errno};
+use wf_core::DescriptionId;
 
-const FILE_GROWS: [(Step, Told); 3] = [
-    (Step::Make(BOTH), Told::File(0, 0)),
-    (Step::Cut(0, 16_777_217), Told::Fault(Errno::Efbig)),
-    (Step::Cut(0, 16_777_216), Told::Done),
+const FILE_GROWS: [(&str, &str); 3] = [
+    ("make rw", "file 0 0"),
+    ("cut 0 16777217", "EFBIG"),
+    ("cut 0 16777216", "done"),
 ];
 
-const FILE_FILLS: [(Step, Told); 6] = [
-    (Step::Writeat(0, "\0\0", 4_095), Told::Count(2)),
-    (Step::Writeat(0, "x", 16_777_216), Told::Fault(Errno::Efbig)),
-    (
-        Step::Writeat(0, "xy", 16_777_215),
-        Told::Fault(Errno::Efbig),
-    ),
-    (
-        Step::Writeat(0, "x", 9_223_372_036_854_775_807),
-        Told::Fault(Errno::Efbig),
-    ),
-    (Step::Writeat(0, "x", 16_777_215), Told::Count(1)),
-    (Step::Writeat(0, "xy", 4_095), Told::Count(2)),
+const FILE_FILLS: [(&str, &str); 6] = [
+    ("writeat 0 %00%00 4095", "count 2"),
+    ("writeat 0 x 16777216", "EFBIG"),
+    ("writeat 0 xy 16777215", "EFBIG"),
+    ("writeat 0 x 9223372036854775807", "EFBIG"),
+    ("writeat 0 x 16777215", "count 1"),
+    ("writeat 0 xy 4095", "count 2"),
 ];
 
-const FILE_EMPTIES: [(Step, Told); 2] = [
-    (Step::Writeat(0, "\0", 4_096), Told::Count(1)),
-    (Step::Cut(0, 16_777_215), Told::Done),
+const FILE_EMPTIES: [(&str, &str); 2] = [
+    ("writeat 0 %00 4096", "count 1"),
+    ("cut 0 16777215", "done"),
 ];
 
 /// A file of 16,777,216 zeros costs no page, and one byte more is too much.
@@ -43,26 +37,31 @@ fn size_of_a_file(rt: HostRuntime) -> Result<(), Fail> {
     Ok(())
 }
 
-const GROUP_FILLS: [(Step, Told); 16] = [
-    (Step::Cut(0, 16_777_216), Told::Done),
-    (Step::Cut(4, 16_777_216), Told::Done),
-    (Step::Cut(8, 16_777_216), Told::Done),
-    (Step::Cut(12, 16_777_215), Told::Done),
-    (Step::Cut(16, 2), Told::Fault(Errno::Enospc)),
-    (Step::Write(16, "ab"), Told::Fault(Errno::Enospc)),
-    (Step::Seek(16, 0, Whence::Cur), Told::At(0)),
-    (Step::Write(16, "a"), Told::Count(1)),
-    (Step::Write(16, "b"), Told::Fault(Errno::Enospc)),
-    (Step::Writeat(16, "b", 1), Told::Fault(Errno::Enospc)),
-    (
-        Step::Writeat(16, "b", 16_777_216),
-        Told::Fault(Errno::Efbig),
-    ),
-    (Step::Cut(16, 16_777_217), Told::Fault(Errno::Efbig)),
-    (Step::Unlinked(0), Told::Done),
-    (Step::Write(16, "b"), Told::Fault(Errno::Enospc)),
-    (Step::Release(0), Told::Done),
-    (Step::Write(16, "b"), Told::Count(1)),
+const FIVE_FILES: [(&str, &str); 5] = [
+    ("make rw", "file 0 0"),
+    ("make rw", "file 4 4"),
+    ("make rw", "file 8 8"),
+    ("make rw", "file 12 12"),
+    ("make rw", "file 16 16"),
+];
+
+const GROUP_FILLS: [(&str, &str); 16] = [
+    ("cut 0 16777216", "done"),
+    ("cut 4 16777216", "done"),
+    ("cut 8 16777216", "done"),
+    ("cut 12 16777215", "done"),
+    ("cut 16 2", "ENOSPC"),
+    ("write 16 ab", "ENOSPC"),
+    ("seek 16 0 cur", "at 0"),
+    ("write 16 a", "count 1"),
+    ("write 16 b", "ENOSPC"),
+    ("writeat 16 b 1", "ENOSPC"),
+    ("writeat 16 b 16777216", "EFBIG"),
+    ("cut 16 16777217", "EFBIG"),
+    ("unlinked 0", "done"),
+    ("write 16 b", "ENOSPC"),
+    ("release 0", "done"),
+    ("write 16 b", "count 1"),
 ];
 
 /// The files of a group have 67,108,864 bytes together, removed ones that are still open among them.
@@ -70,35 +69,21 @@ const GROUP_FILLS: [(Step, Told); 16] = [
 fn size_of_a_group(rt: HostRuntime) -> Result<(), Fail> {
     let alloc = rt.alloc();
     let mut files = Files::new(alloc, 0);
-    for _ in 0..5 {
-        files.apply(&FileOp::Make(BOTH))?;
-    }
+    expect_all(&rt, alloc, &mut files, &FIVE_FILES)?;
     expect_all(&rt, alloc, &mut files, &GROUP_FILLS)?;
     Ok(())
 }
 
-const OFFSETS: [(Step, Told); 9] = [
-    (Step::Make(BOTH), Told::File(0, 0)),
-    (
-        Step::Seek(0, 1_099_511_627_777, Whence::Set),
-        Told::Fault(Errno::Eoverflow),
-    ),
-    (
-        Step::Seek(0, 1_099_511_627_776, Whence::Set),
-        Told::At(1_099_511_627_776),
-    ),
-    (Step::Seek(0, 1, Whence::Cur), Told::Fault(Errno::Eoverflow)),
-    (
-        Step::Seek(0, 9_223_372_036_854_775_807, Whence::Cur),
-        Told::Fault(Errno::Eoverflow),
-    ),
-    (Step::Read(0, 1), Told::Bytes("")),
-    (Step::Write(0, "x"), Told::Fault(Errno::Efbig)),
-    (Step::Seek(0, 0, Whence::Cur), Told::At(1_099_511_627_776)),
-    (
-        Step::Seek(0, -9_223_372_036_854_775_808, Whence::Cur),
-        Told::Fault(Errno::Einval),
-    ),
+const OFFSETS: [(&str, &str); 9] = [
+    ("make rw", "file 0 0"),
+    ("seek 0 1099511627777 set", "EOVERFLOW"),
+    ("seek 0 1099511627776 set", "at 1099511627776"),
+    ("seek 0 1 cur", "EOVERFLOW"),
+    ("seek 0 9223372036854775807 cur", "EOVERFLOW"),
+    ("read 0 1", "bytes %_"),
+    ("write 0 x", "EFBIG"),
+    ("seek 0 0 cur", "at 1099511627776"),
+    ("seek 0 -9223372036854775808 cur", "EINVAL"),
 ];
 
 /// An offset is at most 1,099,511,627,776.
@@ -110,10 +95,7 @@ fn offsets(rt: HostRuntime) -> Result<(), Fail> {
     Ok(())
 }
 
-const ZEROS: [(Step, Told); 2] = [
-    (Step::Make(BOTH), Told::File(0, 0)),
-    (Step::Cut(0, 10_000), Told::Done),
-];
+const ZEROS: [(&str, &str); 2] = [("make rw", "file 0 0"), ("cut 0 10000", "done")];
 
 /// One read gives 4,096 bytes at most, also over the end of a page.
 #[test]
@@ -134,7 +116,6 @@ fn size_of_a_read(rt: HostRuntime) -> Result<(), Fail> {
         description: DescriptionId::new(0),
         count: 4_294_967_295,
     })?;
-    let cases = [(Step::Seek(0, 0, Whence::Cur), Told::At(4_096))];
-    expect_all(&rt, alloc, &mut files, &cases)?;
+    expect(&rt, alloc, &mut files, "seek 0 0 cur", "at 4096")?;
     Ok(())
 }

@@ -1,48 +1,41 @@
-use super::steps::{APPENDS, BOTH, READS, Step, Told, WRITES, expect_all};
-use file_store::{Files, Whence};
-use std::alloc::{AllocError, Global};
+use super::steps::expect_all;
+use file_store::Files;
+use std::alloc::Global;
 use std::process::Abort;
 use std::test::Fail;
-use wf_core::Errno;
 
-const BAD: Told = Told::Fault(Errno::Ebadf);
-
-const INVALID: Told = Told::Fault(Errno::Einval);
-
-const NOTHING: Told = Told::Bytes("");
-
-const FOUR_FILES: [(Step, Told); 4] = [
-    (Step::Make(BOTH), Told::File(1, 1)),
-    (Step::Make(READS), Told::File(5, 5)),
-    (Step::Make(WRITES), Told::File(9, 9)),
-    (Step::Make(APPENDS), Told::File(13, 13)),
+const FOUR_FILES: [(&str, &str); 4] = [
+    ("make rw", "file 1 1"),
+    ("make r", "file 5 5"),
+    ("make w", "file 9 9"),
+    ("make rwa", "file 13 13"),
 ];
 
 /// Ids of a group go up by four, for files and for descriptions.
-fn make_four(rt: &impl Abort, alloc: Global, files: &mut Files) -> Result<(), AllocError> {
+fn make_four(rt: &impl Abort, alloc: Global, files: &mut Files) -> Result<(), Fail> {
     expect_all(rt, alloc, files, &FOUR_FILES)
 }
 
-const READ_CASES: [(Step, Told); 18] = [
-    (Step::Write(1, "abc"), Told::Count(3)),
-    (Step::Size(1), Told::Size(3)),
-    (Step::Sizeof(1), Told::Size(3)),
-    (Step::Read(1, 9), NOTHING),
-    (Step::Seek(1, 0, Whence::Set), Told::At(0)),
-    (Step::Read(1, 2), Told::Bytes("ab")),
-    (Step::Read(1, 9), Told::Bytes("c")),
-    (Step::Seek(1, 0, Whence::Cur), Told::At(3)),
-    (Step::Readat(1, 5, 1), Told::Bytes("bc")),
-    (Step::Readat(1, 1, 3), NOTHING),
-    (Step::Seek(1, 0, Whence::Cur), Told::At(3)),
-    (Step::Readat(1, 1, -1), INVALID),
-    (Step::Readat(9, 1, -1), BAD),
-    (Step::Read(9, 1), BAD),
+const READ_CASES: [(&str, &str); 18] = [
+    ("write 1 abc", "count 3"),
+    ("size 1", "size 3"),
+    ("sizeof 1", "size 3"),
+    ("read 1 9", "bytes %_"),
+    ("seek 1 0 set", "at 0"),
+    ("read 1 2", "bytes ab"),
+    ("read 1 9", "bytes c"),
+    ("seek 1 0 cur", "at 3"),
+    ("readat 1 5 1", "bytes bc"),
+    ("readat 1 1 3", "bytes %_"),
+    ("seek 1 0 cur", "at 3"),
+    ("readat 1 1 -1", "EINVAL"),
+    ("readat 9 1 -1", "EBADF"),
+    ("read 9 1", "EBADF"),
     // No such description; one of another group.
-    (Step::Read(99, 1), BAD),
-    (Step::Readat(2, 1, 0), BAD),
-    (Step::Size(2), BAD),
-    (Step::Sizeof(2), Told::Gone),
+    ("read 99 1", "EBADF"),
+    ("readat 2 1 0", "EBADF"),
+    ("size 2", "EBADF"),
+    ("sizeof 2", "gone"),
 ];
 
 #[test]
@@ -54,22 +47,22 @@ fn reads(rt: HostRuntime) -> Result<(), Fail> {
     Ok(())
 }
 
-const WRITE_CASES: [(Step, Told); 14] = [
-    (Step::Write(5, "x"), BAD),
-    (Step::Write(5, ""), BAD),
-    (Step::Write(99, "x"), BAD),
-    (Step::Writeat(5, "x", -1), BAD),
-    (Step::Writeat(99, "x", 0), BAD),
-    (Step::Writeat(1, "x", -1), INVALID),
-    (Step::Writeat(1, "", -1), INVALID),
-    (Step::Writeat(1, "", 7), Told::Count(0)),
-    (Step::Write(1, ""), Told::Count(0)),
-    (Step::Size(1), Told::Size(0)),
+const WRITE_CASES: [(&str, &str); 14] = [
+    ("write 5 x", "EBADF"),
+    ("write 5 %_", "EBADF"),
+    ("write 99 x", "EBADF"),
+    ("writeat 5 x -1", "EBADF"),
+    ("writeat 99 x 0", "EBADF"),
+    ("writeat 1 x -1", "EINVAL"),
+    ("writeat 1 %_ -1", "EINVAL"),
+    ("writeat 1 %_ 7", "count 0"),
+    ("write 1 %_", "count 0"),
+    ("size 1", "size 0"),
     // A gap is zeros, and a write at an offset leaves the description's.
-    (Step::Write(1, "ab"), Told::Count(2)),
-    (Step::Writeat(1, "z", 4), Told::Count(1)),
-    (Step::Seek(1, 0, Whence::Cur), Told::At(2)),
-    (Step::Read(1, 9), Told::Bytes("\0\0z")),
+    ("write 1 ab", "count 2"),
+    ("writeat 1 z 4", "count 1"),
+    ("seek 1 0 cur", "at 2"),
+    ("read 1 9", "bytes %00%00z"),
 ];
 
 #[test]
@@ -81,15 +74,15 @@ fn writes(rt: HostRuntime) -> Result<(), Fail> {
     Ok(())
 }
 
-const APPEND_CASES: [(Step, Told); 8] = [
-    (Step::Write(13, "ab"), Told::Count(2)),
-    (Step::Seek(13, 0, Whence::Set), Told::At(0)),
-    (Step::Write(13, ""), Told::Count(0)),
-    (Step::Seek(13, 0, Whence::Cur), Told::At(0)),
-    (Step::Write(13, "c"), Told::Count(1)),
-    (Step::Seek(13, 0, Whence::Cur), Told::At(3)),
-    (Step::Writeat(13, "z", 0), Told::Count(1)),
-    (Step::Readat(13, 9, 0), Told::Bytes("zbc")),
+const APPEND_CASES: [(&str, &str); 8] = [
+    ("write 13 ab", "count 2"),
+    ("seek 13 0 set", "at 0"),
+    ("write 13 %_", "count 0"),
+    ("seek 13 0 cur", "at 0"),
+    ("write 13 c", "count 1"),
+    ("seek 13 0 cur", "at 3"),
+    ("writeat 13 z 0", "count 1"),
+    ("readat 13 9 0", "bytes zbc"),
 ];
 
 #[test]
@@ -101,23 +94,23 @@ fn appends(rt: HostRuntime) -> Result<(), Fail> {
     Ok(())
 }
 
-const SEEK_AND_CUT_CASES: [(Step, Told); 15] = [
-    (Step::Write(1, "abcdef"), Told::Count(6)),
-    (Step::Seek(1, -1, Whence::Set), INVALID),
-    (Step::Seek(1, -7, Whence::End), INVALID),
-    (Step::Seek(1, -7, Whence::Cur), INVALID),
-    (Step::Seek(1, -6, Whence::End), Told::At(0)),
-    (Step::Seek(1, 2, Whence::Cur), Told::At(2)),
-    (Step::Seek(99, 0, Whence::Set), BAD),
-    (Step::Cut(5, 0), INVALID),
-    (Step::Cut(1, -1), INVALID),
-    (Step::Cut(99, 0), BAD),
+const SEEK_AND_CUT_CASES: [(&str, &str); 15] = [
+    ("write 1 abcdef", "count 6"),
+    ("seek 1 -1 set", "EINVAL"),
+    ("seek 1 -7 end", "EINVAL"),
+    ("seek 1 -7 cur", "EINVAL"),
+    ("seek 1 -6 end", "at 0"),
+    ("seek 1 2 cur", "at 2"),
+    ("seek 99 0 set", "EBADF"),
+    ("cut 5 0", "EINVAL"),
+    ("cut 1 -1", "EINVAL"),
+    ("cut 99 0", "EBADF"),
     // What was cut off does not come back.
-    (Step::Cut(1, 2), Told::Done),
-    (Step::Size(1), Told::Size(2)),
-    (Step::Cut(1, 4), Told::Done),
-    (Step::Readat(1, 9, 0), Told::Bytes("ab\0\0")),
-    (Step::Seek(1, 0, Whence::Cur), Told::At(2)),
+    ("cut 1 2", "done"),
+    ("size 1", "size 2"),
+    ("cut 1 4", "done"),
+    ("readat 1 9 0", "bytes ab%00%00"),
+    ("seek 1 0 cur", "at 2"),
 ];
 
 #[test]
@@ -129,32 +122,32 @@ fn seeks_and_cuts(rt: HostRuntime) -> Result<(), Fail> {
     Ok(())
 }
 
-const END_CASES: [(Step, Told); 23] = [
-    (Step::Write(1, "abc"), Told::Count(3)),
-    (Step::Attach(1, BOTH, false), Told::Desc(17)),
-    (Step::Seek(17, 0, Whence::Cur), Told::At(0)),
-    (Step::Attach(99, BOTH, false), Told::Gone),
+const END_CASES: [(&str, &str); 23] = [
+    ("write 1 abc", "count 3"),
+    ("attach 1 rw 0", "desc 17"),
+    ("seek 17 0 cur", "at 0"),
+    ("attach 99 rw 0", "gone"),
     // A removed file stays while it is open.
-    (Step::Unlinked(1), Told::Done),
-    (Step::Sizeof(1), Told::Gone),
-    (Step::Attach(1, BOTH, true), Told::Gone),
-    (Step::Size(1), Told::Size(3)),
-    (Step::Release(17), Told::Done),
-    (Step::Size(1), Told::Size(3)),
-    (Step::Release(1), Told::Done),
-    (Step::Size(1), BAD),
-    (Step::Release(1), BAD),
-    (Step::Unlinked(1), Told::Done),
-    (Step::Unlinked(99), Told::Done),
+    ("unlinked 1", "done"),
+    ("sizeof 1", "gone"),
+    ("attach 1 rw 1", "gone"),
+    ("size 1", "size 3"),
+    ("release 17", "done"),
+    ("size 1", "size 3"),
+    ("release 1", "done"),
+    ("size 1", "EBADF"),
+    ("release 1", "EBADF"),
+    ("unlinked 1", "done"),
+    ("unlinked 99", "done"),
     // A linked file stays while it is not open, and ids are not used again.
-    (Step::Release(9), Told::Done),
-    (Step::Sizeof(9), Told::Size(0)),
-    (Step::Unlinked(9), Told::Done),
-    (Step::Sizeof(9), Told::Gone),
-    (Step::Make(WRITES), Told::File(17, 21)),
-    (Step::Write(21, "hello"), Told::Count(5)),
-    (Step::Attach(17, READS, true), Told::Desc(25)),
-    (Step::Sizeof(17), Told::Size(0)),
+    ("release 9", "done"),
+    ("sizeof 9", "size 0"),
+    ("unlinked 9", "done"),
+    ("sizeof 9", "gone"),
+    ("make w", "file 17 21"),
+    ("write 21 hello", "count 5"),
+    ("attach 17 r 1", "desc 25"),
+    ("sizeof 17", "size 0"),
 ];
 
 #[test]

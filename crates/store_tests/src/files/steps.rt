@@ -1,131 +1,160 @@
+//! Operations on files and their answers as lines of words, in which a text field stands for bytes: `%00` for byte 0, and
+//! `%_` alone for none.
+
 use file_store::{Access, FileAnswer, FileOp, Files, Mode, Whence};
 use std::alloc::{AllocError, Global};
 use std::process::Abort;
-use wf_core::{DescriptionId, Errno, FileId, Text};
+use std::test::Fail;
+use wf_core::{DescriptionId, FileId, Text};
 
-pub(super) const READS: Mode = Mode {
-    access: Access::Read,
-    append: false,
-};
-
-pub(super) const WRITES: Mode = Mode {
-    access: Access::Write,
-    append: false,
-};
-
-pub(super) const BOTH: Mode = Mode {
-    access: Access::ReadWrite,
-    append: false,
-};
-
-pub(super) const APPENDS: Mode = Mode {
-    access: Access::ReadWrite,
-    append: true,
-};
-
-/// An operation with plain numbers, whose bytes are not owned.
-#[derive(Clone, Copy, Debug)]
-pub(super) enum Step {
-    Make(Mode),
-    Attach(u64, Mode, bool),
-    Sizeof(u64),
-    Unlinked(u64),
-    Release(u64),
-    Read(u64, u32),
-    Readat(u64, u32, i64),
-    Write(u64, &'static str),
-    Writeat(u64, &'static str, i64),
-    Seek(u64, i64, Whence),
-    Cut(u64, i64),
-    Size(u64),
+pub(super) fn word<'a>(word: Option<&'a str>) -> Result<&'a str, Fail> {
+    Ok(word.ok_or("a word is missing")?)
 }
 
-/// An answer with plain numbers, whose bytes are not owned.
-#[derive(Clone, Copy, Debug)]
-pub(super) enum Told {
-    File(u64, u64),
-    Gone,
-    Desc(u64),
-    Size(u64),
-    Done,
-    Bytes(&'static str),
-    Count(u64),
-    At(u64),
-    Fault(Errno),
-}
-
-fn operation(alloc: Global, step: Step) -> Result<FileOp, AllocError> {
-    Ok(match step {
-        Step::Make(mode) => FileOp::Make(mode),
-        Step::Attach(file, mode, truncate) => FileOp::Attach {
-            file: FileId::new(file),
-            mode,
-            truncate,
-        },
-        Step::Sizeof(file) => FileOp::Sizeof(FileId::new(file)),
-        Step::Unlinked(file) => FileOp::Unlinked(FileId::new(file)),
-        Step::Release(number) => FileOp::Release(DescriptionId::new(number)),
-        Step::Read(number, count) => FileOp::Read {
-            description: DescriptionId::new(number),
-            count,
-        },
-        Step::Readat(number, count, offset) => FileOp::Readat {
-            description: DescriptionId::new(number),
-            count,
-            offset,
-        },
-        Step::Write(number, text) => FileOp::Write {
-            description: DescriptionId::new(number),
-            bytes: Text::read(alloc, text.as_bytes())?,
-        },
-        Step::Writeat(number, text, offset) => FileOp::Writeat {
-            description: DescriptionId::new(number),
-            bytes: Text::read(alloc, text.as_bytes())?,
-            offset,
-        },
-        Step::Seek(number, offset, whence) => FileOp::Seek {
-            description: DescriptionId::new(number),
-            offset,
-            whence,
-        },
-        Step::Cut(number, size) => FileOp::Cut {
-            description: DescriptionId::new(number),
-            size,
-        },
-        Step::Size(number) => FileOp::Size(DescriptionId::new(number)),
-    })
-}
-
-fn is_told(answer: &FileAnswer, told: Told) -> bool {
-    match (answer, told) {
-        (FileAnswer::File { file, description }, Told::File(number, id)) => {
-            file.number() == number && description.number() == id
-        }
-        (FileAnswer::Desc(description), Told::Desc(id)) => description.number() == id,
-        (FileAnswer::Bytes(bytes), Told::Bytes(text)) => bytes.as_bytes() == text.as_bytes(),
-        (FileAnswer::Size(size), Told::Size(told)) => *size == told,
-        (FileAnswer::Count(count), Told::Count(told)) => *count == told,
-        (FileAnswer::At(offset), Told::At(told)) => *offset == told,
-        (FileAnswer::Fault(error), Told::Fault(told)) => *error == told,
-        (FileAnswer::Gone, Told::Gone) | (FileAnswer::Done, Told::Done) => true,
-        _ => false,
+fn mode(name: &str) -> Mode {
+    let access = match name {
+        "r" | "ra" => Access::Read,
+        "w" | "wa" => Access::Write,
+        _ => Access::ReadWrite,
+    };
+    Mode {
+        access,
+        append: name.ends_with('a'),
     }
 }
 
-/// Takes each step and compares what it answers.
+fn whence(name: &str) -> Whence {
+    match name {
+        "set" => Whence::Set,
+        "cur" => Whence::Cur,
+        _ => Whence::End,
+    }
+}
+
+fn bytes_of(alloc: Global, field: &str) -> Result<Text, AllocError> {
+    let mut bytes = Vec::new(alloc);
+    if field != "%_" {
+        for piece in field.split('%') {
+            match piece.strip_prefix("00") {
+                Some(rest) => {
+                    bytes.push(0)?;
+                    bytes.extend_from_slice(rest.as_bytes())?;
+                }
+                None => bytes.extend_from_slice(piece.as_bytes())?,
+            }
+        }
+    }
+    Ok(Text::new(bytes))
+}
+
+/// An operation from its words, as `seek 1 0 set`.
+fn read_op(alloc: Global, line: &str) -> Result<FileOp, Fail> {
+    let mut words = line.split(' ');
+    let operation = word(words.next())?;
+    let first = word(words.next())?;
+    if operation == "make" {
+        return Ok(FileOp::Make(mode(first)));
+    }
+    let id = first.parse::<u64>()?;
+    let description = DescriptionId::new(id);
+    Ok(match operation {
+        "attach" => FileOp::Attach {
+            file: FileId::new(id),
+            mode: mode(word(words.next())?),
+            truncate: word(words.next())? == "1",
+        },
+        "sizeof" => FileOp::Sizeof(FileId::new(id)),
+        "unlinked" => FileOp::Unlinked(FileId::new(id)),
+        "release" => FileOp::Release(description),
+        "read" => FileOp::Read {
+            description,
+            count: word(words.next())?.parse::<u32>()?,
+        },
+        "readat" => FileOp::Readat {
+            description,
+            count: word(words.next())?.parse::<u32>()?,
+            offset: word(words.next())?.parse::<i64>()?,
+        },
+        "write" => FileOp::Write {
+            description,
+            bytes: bytes_of(alloc, word(words.next())?)?,
+        },
+        "writeat" => FileOp::Writeat {
+            description,
+            bytes: bytes_of(alloc, word(words.next())?)?,
+            offset: word(words.next())?.parse::<i64>()?,
+        },
+        "seek" => FileOp::Seek {
+            description,
+            offset: word(words.next())?.parse::<i64>()?,
+            whence: whence(word(words.next())?),
+        },
+        "cut" => FileOp::Cut {
+            description,
+            size: word(words.next())?.parse::<i64>()?,
+        },
+        _ => FileOp::Size(description),
+    })
+}
+
+fn push_bytes(out: &mut String, bytes: &[u8]) -> Result<(), AllocError> {
+    if bytes.is_empty() {
+        out.push_str("%_")?;
+    }
+    for byte in bytes {
+        if *byte == 0 {
+            out.push_str("%00")?;
+        } else {
+            out.push(char::from(*byte))?;
+        }
+    }
+    Ok(())
+}
+
+/// An answer in words, as `count 3`.
+fn answer_text(alloc: Global, answer: &FileAnswer) -> Result<String, AllocError> {
+    match answer {
+        FileAnswer::File { file, description } => {
+            format!(in alloc; "file {} {}", file.number(), description.number())
+        }
+        FileAnswer::Gone => format!(in alloc; "gone"),
+        FileAnswer::Desc(description) => format!(in alloc; "desc {}", description.number()),
+        FileAnswer::Size(size) => format!(in alloc; "size {size}"),
+        FileAnswer::Done => format!(in alloc; "done"),
+        FileAnswer::Bytes(bytes) => {
+            let mut out = format!(in alloc; "bytes ")?;
+            push_bytes(&mut out, bytes.as_bytes())?;
+            Ok(out)
+        }
+        FileAnswer::Count(count) => format!(in alloc; "count {count}"),
+        FileAnswer::At(offset) => format!(in alloc; "at {offset}"),
+        FileAnswer::Fault(error) => format!(in alloc; "{}", error.word()),
+    }
+}
+
+/// Takes a step and compares what it answers.
+pub(super) fn expect(
+    rt: &impl Abort,
+    alloc: Global,
+    files: &mut Files,
+    line: &str,
+    expected: &str,
+) -> Result<(), Fail> {
+    let answer = files.apply(&read_op(alloc, line)?)?;
+    let text = answer_text(alloc, &answer)?;
+    assert_eq!(rt; text.as_str(), expected, "at {line}");
+    Ok(())
+}
+
+/// Takes each step in turn, and compares what it answers.
 pub(super) fn expect_all(
     rt: &impl Abort,
     alloc: Global,
     files: &mut Files,
-    cases: &[(Step, Told)],
-) -> Result<(), AllocError> {
-    for (step, told) in cases {
-        let op = operation(alloc, *step)?;
-        let answer = files.apply(&op)?;
-        assert!(rt;
-            is_told(&answer, *told),
-            "{step:?}: {answer:?} and not {told:?}"
-        );
+    cases: &[(&str, &str)],
+) -> Result<(), Fail> {
+    for (line, expected) in cases {
+        expect(rt, alloc, files, line, expected)?;
     }
     Ok(())
 }

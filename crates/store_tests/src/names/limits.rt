@@ -34,10 +34,10 @@ fn repeated(alloc: Global, piece: &str, count: u32) -> Result<String, AllocError
 
 /// Each operation that takes a name or a text. `@` stands for all bytes of a name but its first, `#` for a text.
 const LONG: [(&str, &str); 23] = [
-    ("makedir 0 a@", "dir 1"),
+    ("makedir 0 a@", "made 1"),
     ("makedir 0 a@", "EEXIST"),
     ("look 0 a@", "dir 1"),
-    ("addlink 0 b@ #", "link 2"),
+    ("addlink 0 b@ #", "made 2"),
     ("addlink 0 b@ #", "EEXIST"),
     ("look 0 b@", "link 2 #"),
     ("addfile 0 c@ 4", "done"),

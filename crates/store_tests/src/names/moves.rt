@@ -3,15 +3,15 @@ use name_store::NameTree;
 use std::test::Fail;
 
 const START: [(&str, &str); 9] = [
-    ("makedir 0 a", "dir 1"),
-    ("makedir 1 b", "dir 2"),
-    ("makedir 2 c", "dir 3"),
-    ("makedir 0 e", "dir 4"),
-    ("makedir 0 f", "dir 5"),
+    ("makedir 0 a", "made 1"),
+    ("makedir 1 b", "made 2"),
+    ("makedir 2 c", "made 3"),
+    ("makedir 0 e", "made 4"),
+    ("makedir 0 f", "made 5"),
     ("addfile 5 x 8", "done"),
     ("addfile 0 g 4", "done"),
     ("addfile 0 h 12", "done"),
-    ("addlink 0 l a", "link 6"),
+    ("addlink 0 l a", "made 6"),
 ];
 
 /// A case for each line of the order, and where two hold, that of the first.
@@ -60,7 +60,7 @@ const MOVED: [(&str, &str); 24] = [
     ("move 0 z 0 h 0", "over 12"),
     ("move 0 l 0 h 0", "over 4"),
     ("look 0 h", "link 6 a"),
-    ("addlink 0 k q", "link 7"),
+    ("addlink 0 k q", "made 7"),
     ("move 0 k 0 h 0", "moved"),
     ("look 0 h", "link 7 q"),
     ("move 5 x 0 h 0", "moved"),
