@@ -1,7 +1,9 @@
 pub mod Components
+pub mod Leads
+pub mod Within
+pub mod Among
 pub mod Along
-pub mod Posixly
+pub mod MachineLemmas
+pub mod PathsLemmas
 pub mod Errors
-pub mod Growth
 pub mod Leading
-pub mod Made

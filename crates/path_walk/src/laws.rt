@@ -1,23 +1,23 @@
-//! What a user may conclude from the definitions of the calls. The functions do nothing: each clause is a law.
+//! What a user may conclude from the definitions. The functions do nothing: each clause is a law.
 
-ghost use Rattle.path_walk.specs.Laws.{StepsAreTheCall, ErrorsChangeNothing, MadeIsThere, MadeOnce};
+ghost use Rattle.path_walk.specs.Laws.{CallsEnd, CallsStayAmong, ErrorsChangeNothing, StepsAreTheCall};
 
 /// The steps of a call, taken one after another by nobody else, are the call at once.
 pub fn steps_are_the_call()
     ensures { StepsAreTheCall }
 {}
 
+/// A call takes at most `CALL_STEPS_MAX` steps.
+pub fn calls_end()
+    ensures { CallsEnd }
+{}
+
+/// Each step of a call is on a backend that is there.
+pub fn calls_stay_among()
+    ensures { CallsStayAmong }
+{}
+
 /// A call that replies an error leaves the store as it was.
 pub fn errors_change_nothing()
     ensures { ErrorsChangeNothing }
-{}
-
-/// What `mkdir` made is a directory to `stat`, where nothing came between.
-pub fn made_is_there()
-    ensures { MadeIsThere }
-{}
-
-/// `mkdir` of what it made replies `EEXIST`, where nothing came between.
-pub fn made_once()
-    ensures { MadeOnce }
 {}
