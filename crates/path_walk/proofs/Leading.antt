@@ -14,12 +14,9 @@ use Rattle.path_walk.specs.declared.route.Spot.{Spot}
 use Rattle.path_walk.specs.declared.route.End.{End}
 use Rattle.path_walk.specs.declared.route.End.TheVariants.{Directory, File, LinkText}
 use Rattle.path_walk.specs.Store.{Store, names_at}
+use Rattle.path_walk.specs.Entries.{node_of}
 use Rattle.path_walk.specs.Paths.{parts_of, slash_of}
 use Rattle.path_walk.specs.PathMeaning.{Way, Course, ends, goes, course, course_to_link, course_through, end_of_course, on_found, entry_in, parent_in, parent_from, root_of, start_of, spot_beside, resolve}
-
--- what stands under a name in a directory of a store
-abbrev pub node_of : Store → Spot → List ℕ → Option Node
-node_of store here name = node_at (names_at store here.backend) here.directory name
 
 entry_course : (directory : Option Listing) (name : List ℕ) (manner : Manner) (rest : List Part) (slash : Bool) (links : ℕ) (here : Spot) (next : Way → Result End Errno) → on_found (entry_in directory name) (λ node. end_of_course (course manner node rest slash links here) next) ≡ end_of_course (course manner (node_in directory name) rest slash links here) next
 entry_course None name manner rest slash links here next = refl

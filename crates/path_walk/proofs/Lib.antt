@@ -7,3 +7,10 @@ pub mod MachineLemmas
 pub mod PathsLemmas
 pub mod Errors
 pub mod Leading
+pub mod StoreLemmas
+pub mod ChangeLemmas
+pub mod MakingLemmas
+pub mod RemovalLemmas
+pub mod LinkLemmas
+pub mod ListLemmas
+pub mod SlashLemmas

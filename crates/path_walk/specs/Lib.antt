@@ -8,4 +8,7 @@ pub mod Calls
 pub mod Posix
 pub mod Alone
 pub mod Machine
+pub mod Entries
 pub mod Laws
+pub mod EntryLaws
+pub mod PathLaws
