@@ -14,3 +14,4 @@ pub mod RemovalLemmas
 pub mod LinkLemmas
 pub mod ListLemmas
 pub mod SlashLemmas
+pub mod MoveLemmas

@@ -1,7 +1,7 @@
 //! What a user may conclude from the definitions. The functions do nothing: each clause is a law.
 
 ghost use Rattle.path_walk.specs.EntryLaws.{MkdirMakes, MkdirThenStat, RmdirRemoves, RmdirThenLstat, SymlinkMakes, SymlinkThenReadlink, UnlinkRemoves, UnlinkThenLstat};
-ghost use Rattle.path_walk.specs.PathLaws.{LinksLead, ListNamesEachOnce, SlashesAskForDirectories};
+ghost use Rattle.path_walk.specs.PathLaws.{LinksLead, ListNamesEachOnce, RenameMoves, SlashesAskForDirectories};
 ghost use Rattle.path_walk.specs.Laws.{CallsEnd, CallsStayAmong, ErrorsChangeNothing, StepsAreTheCall};
 
 /// The steps of a call, taken one after another by nobody else, are the call at once.
@@ -77,4 +77,10 @@ pub fn slashes_ask_for_directories()
 /// Lists from 0, from `LIST_MAX` and so on name each entry of a directory once, in the order of the names' bytes.
 pub fn list_names_each_once()
     ensures { ListNamesEachOnce }
+{}
+
+/// After `rename` the new name is what the old one was, and the old one is no more, unless both are one entry. A moved
+/// directory keeps its id and its entries.
+pub fn rename_moves()
+    ensures { RenameMoves }
 {}
