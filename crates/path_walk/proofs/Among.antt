@@ -8,7 +8,6 @@ use Rattle.name_store.specs.declared.operation.Node.{Node}
 use Rattle.name_store.specs.declared.operation.Node.TheVariants.{Dir, Link, File as FileNode, Mount}
 use Rattle.name_store.specs.declared.operation.NameOp.{NameOp}
 use Rattle.name_store.specs.declared.operation.NameOp.TheVariants.{Move, Look, Parent, List as ListOp}
-use Rattle.name_store.specs.declared.operation.NameAnswer.{NameAnswer}
 use Rattle.name_store.specs.declared.operation.NameAnswer.TheVariants.{Found, Absent}
 use Rattle.path_walk.specs.declared.part.Part.{Part}
 use Rattle.path_walk.specs.declared.part.Part.TheVariants.{Here, Up, Down, TooLong}
@@ -28,11 +27,11 @@ use Rattle.path_walk.specs.declared.step.StepAnswer.{StepAnswer}
 use Rattle.path_walk.specs.declared.step.StepAnswer.TheVariants.{Answered, Cancelled, Closed}
 use Rattle.path_walk.specs.declared.call.Call.{Call}
 use Rattle.path_walk.specs.declared.call.Call.TheVariants as call
-use Rattle.path_walk.specs.Backing.{IsNodeAmong, NamesAmong, IsAnswerOf}
-use Rattle.path_walk.specs.PathMeaning.{Way, Course, ends, goes, root_of, start_of, way_through, course, course_through, course_at_file, course_at_link, is_followed}
-use Rattle.path_walk.specs.Programs.{Program, finished, asks, StaysAmong}
+use Rattle.path_walk.specs.Backing.{IsNodeAmong, IsAnswerOf}
+use Rattle.path_walk.specs.PathMeaning.{Way, Course, ends, goes, root_of, start_of, course_through, course_at_file, course_at_link, is_followed}
+use Rattle.path_walk.specs.Programs.{Program, asks, StaysAmong}
 use Rattle.path_walk.specs.Walk.{program_on, walk, course_on, node_in}
-use Rattle.path_walk.specs.Calls.{Plan, walks, fails, program_of, on_ok, unless_fault, ok_unless, plan, plan_after, unlinked_by, last_step, last_fault, status_plan, text_plan, list_plan, parent_plan, parent_of, change_plan, changes, name_of, faults_of, op_of, move_faults, move_on, move_plan, slash_fault, text_fault, parent_route, whole_route}
+use Rattle.path_walk.specs.Calls.{Plan, walks, fails, program_of, on_ok, unless_fault, ok_unless, plan_after, unlinked_by, last_step, last_fault, status_plan, text_plan, list_plan, parent_plan, parent_of, change_plan, changes, name_of, faults_of, op_of, move_faults, move_on, move_plan, slash_fault, text_fault, parent_route, whole_route}
 use Rattle.path_walk.specs.Posix.{program}
 
 -- of so many backends, the walk's end, its course, or what was found names only those

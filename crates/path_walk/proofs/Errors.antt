@@ -1,5 +1,5 @@
 -- A call that replies an error leaves the store as it was.
-use Rattle.std.proofs.Common.{◌≡◌, ℕ, ◌==◌, ◌%◌, ◌||◌, zero, suc, Bool, true, false, if◌then◌else◌, List, [], ◌∷◌, Option, None, Some, Result, Ok, Err, slice_set, slice_get, unwrap_or, refl, sym, ap, ◌∙◌}
+use Rattle.std.proofs.Common.{◌≡◌, ℕ, ◌==◌, ◌%◌, ◌||◌, Bool, true, false, if◌then◌else◌, List, Option, None, Some, Result, Ok, Err, slice_set, refl, ap, ◌∙◌}
 use Rattle.wf_core.specs.Limits.{path_names_max, symloop_max, group_count}
 use Rattle.wf_core.specs.declared.errno.Errno.{Errno}
 use Rattle.wf_core.specs.declared.errno.Errno.TheVariants.{Exdev}
@@ -25,7 +25,7 @@ use Rattle.path_walk.specs.declared.step.StepAnswer.TheVariants.{Answered}
 use Rattle.path_walk.specs.declared.call.Call.{Call}
 use Rattle.path_walk.specs.declared.call.Call.TheVariants as call
 use Rattle.path_walk.specs.declared.call.Reply.TheVariants as reply
-use Rattle.path_walk.specs.Store.{Store, Backend, backend_at, names_at, group_at, with_names, with_group}
+use Rattle.path_walk.specs.Store.{Store, backend_at, names_at, group_at, with_names, with_group}
 use Rattle.path_walk.specs.PathMeaning.{root_of, resolve}
 use Rattle.path_walk.specs.Calls.{Plan, walks, fails, on_ok, unless_fault, at_once, plan, plan_after, unlinked_by, last_step, status_plan, text_plan, list_plan, parent_plan, parent_of, change_plan, changes, name_of, faults_of, op_of, move_faults, move_on, move_plan, slash_fault, text_fault, parent_route, whole_route}
 use Rattle.path_walk.specs.Posix.{posix}

@@ -4,19 +4,19 @@ use Rattle.wf_core.specs.declared.errno.Errno.{Errno}
 use Rattle.wf_core.specs.declared.errno.Errno.TheVariants.{Enoent}
 use Rattle.name_store.specs.declared.operation.Node.{Node}
 use Rattle.name_store.specs.declared.operation.Node.TheVariants.{Dir, Link, File as FileNode, Mount}
-use Rattle.name_store.specs.NameTrees.{Listing, dir_at, entry_at}
-use Rattle.name_store.specs.Sound.{node_in, node_at, parent_of, parent_at}
+use Rattle.name_store.specs.NameTrees.{Listing, dir_at}
+use Rattle.name_store.specs.Sound.{node_in, parent_of, parent_at}
 use Rattle.path_walk.specs.declared.part.Part.{Part}
 use Rattle.path_walk.specs.declared.part.Part.TheVariants.{Here, Up, Down, TooLong}
 use Rattle.path_walk.specs.declared.route.Manner.{Manner}
-use Rattle.path_walk.specs.declared.route.Manner.TheVariants.{OnWay, Follows, Stays}
+use Rattle.path_walk.specs.declared.route.Manner.TheVariants.{OnWay}
 use Rattle.path_walk.specs.declared.route.Spot.{Spot}
 use Rattle.path_walk.specs.declared.route.End.{End}
 use Rattle.path_walk.specs.declared.route.End.TheVariants.{Directory, File, LinkText}
 use Rattle.path_walk.specs.Store.{Store, names_at}
 use Rattle.path_walk.specs.Entries.{node_of}
 use Rattle.path_walk.specs.Paths.{parts_of, slash_of}
-use Rattle.path_walk.specs.PathMeaning.{Way, Course, ends, goes, course, course_to_link, course_through, end_of_course, on_found, entry_in, parent_in, parent_from, root_of, start_of, spot_beside, resolve}
+use Rattle.path_walk.specs.PathMeaning.{Way, Course, ends, goes, course, end_of_course, on_found, entry_in, parent_in, parent_from, root_of, start_of, spot_beside, resolve}
 
 entry_course : (directory : Option Listing) (name : List ℕ) (manner : Manner) (rest : List Part) (slash : Bool) (links : ℕ) (here : Spot) (next : Way → Result End Errno) → on_found (entry_in directory name) (λ node. end_of_course (course manner node rest slash links here) next) ≡ end_of_course (course manner (node_in directory name) rest slash links here) next
 entry_course None name manner rest slash links here next = refl

@@ -1,8 +1,7 @@
 -- A walk over a store that stands still ends where the path leads, and a call's steps are the call at once.
-use Rattle.std.proofs.Common.{◌≡◌, ℕ, ◌==◌, zero, suc, Bool, true, false, if◌then◌else◌, List, [], ◌∷◌, Option, None, Some, Result, Ok, Err, slice_set, slice_get, unwrap_or, refl, sym, ap, ◌∙◌}
+use Rattle.std.proofs.Common.{◌≡◌, ℕ, ◌==◌, zero, suc, Bool, true, false, if◌then◌else◌, List, [], ◌∷◌, Option, None, Some, Result, Ok, slice_set, slice_get, unwrap_or, refl, ap, ◌∙◌}
 use Rattle.wf_core.specs.Limits.{path_names_max, symloop_max}
 use Rattle.wf_core.specs.declared.errno.Errno.{Errno}
-use Rattle.wf_core.specs.declared.errno.Errno.TheVariants.{Enoent}
 use Rattle.name_store.specs.declared.operation.Node.{Node}
 use Rattle.name_store.specs.declared.operation.NameOp.{NameOp}
 use Rattle.name_store.specs.declared.operation.NameOp.TheVariants.{Look, Parent}
@@ -19,9 +18,9 @@ use Rattle.path_walk.specs.declared.step.StoreAnswer.TheVariants.{Names as Names
 use Rattle.path_walk.specs.declared.step.StepAnswer.{StepAnswer}
 use Rattle.path_walk.specs.declared.step.StepAnswer.TheVariants.{Answered}
 use Rattle.path_walk.specs.declared.call.Call.{Call}
-use Rattle.path_walk.specs.Store.{Store, Backend, backend_at, names_at, with_names, cstep}
-use Rattle.path_walk.specs.PathMeaning.{Way, way, Course, ends, goes, course, end_of_course, on_found, entry_in, parent_in, parent_from, root_of, spot_beside, resolve}
-use Rattle.path_walk.specs.Programs.{Program, finished, asks, CallOutcome, run}
+use Rattle.path_walk.specs.Store.{Store, names_at, with_names, cstep}
+use Rattle.path_walk.specs.PathMeaning.{Way, way, Course, ends, goes, course, end_of_course, on_found, entry_in, parent_in, root_of, spot_beside, resolve}
+use Rattle.path_walk.specs.Programs.{Program, asks, run}
 use Rattle.path_walk.specs.Walk.{node_in, course_on, program_on, walk}
 use Rattle.path_walk.specs.Calls.{Plan, replies, steps, walks, program_of, at_once, plan}
 use Rattle.path_walk.specs.Posix.{posix, program}

@@ -1,11 +1,10 @@
 -- Where components lead through a link.
-use Rattle.std.proofs.Common.{◌≡◌, ℕ, ◌||◌, zero, suc, Bool, true, false, List, [], ◌∷◌, ◌++◌, append-nil, Option, None, Some, Result, Ok, Err, refl, sym, ap, ◌∙◌}
+use Rattle.std.proofs.Common.{◌≡◌, ℕ, ◌||◌, suc, Bool, true, List, [], ◌∷◌, ◌++◌, append-nil, Option, Some, Result, Err, refl, sym, ap, ◌∙◌}
 use Rattle.wf_core.specs.declared.errno.Errno.{Errno}
 use Rattle.wf_core.specs.declared.errno.Errno.TheVariants.{Eloop}
 use Rattle.name_store.specs.declared.operation.Node.{Node}
 use Rattle.name_store.specs.declared.operation.Node.TheVariants.{Link}
 use Rattle.path_walk.specs.declared.part.Part.{Part}
-use Rattle.path_walk.specs.declared.part.Part.TheVariants.{Down}
 use Rattle.path_walk.specs.declared.route.Manner.{Manner}
 use Rattle.path_walk.specs.declared.route.Spot.{Spot}
 use Rattle.path_walk.specs.declared.route.End.{End}

@@ -1,12 +1,10 @@
 -- The lists of a directory, one after another, are all of its names.
-use Rattle.std.proofs.Common.{◌≡◌, ◌≤◌, ℕ, ◌+◌, ◌*◌, zero, suc, List, [], ◌∷◌, ◌++◌, length, take, drop, take_all, Option, None, Some, Result, Ok, Err, refl, sym, ap, ◌∙◌, arith}
+use Rattle.std.proofs.Common.{◌≡◌, ℕ, ◌+◌, ◌*◌, zero, suc, List, ◌++◌, take, drop, take_all, Option, None, Some, Result, Ok, refl, sym, ap, ◌∙◌, arith}
 use Rattle.std.proofs.Math.Seq.{take-add, drop-drop}
 use Rattle.std.specs.Map.{keys_of}
 use Rattle.wf_core.specs.Limits.{list_max}
 use Rattle.wf_core.specs.declared.errno.Errno.{Errno}
-use Rattle.name_store.specs.declared.operation.NameOp.TheVariants.{List as ListOp}
-use Rattle.name_store.specs.declared.operation.NameAnswer.TheVariants.{Names as NamesAnswer}
-use Rattle.name_store.specs.NameTrees.{Tree, Listing, NamesOutcome, dir_at, list_answer, nstep, outcome_of, unless_gone}
+use Rattle.name_store.specs.NameTrees.{Listing, list_answer, outcome_of, unless_gone}
 use Rattle.path_walk.specs.declared.route.Manner.TheVariants.{Follows}
 use Rattle.path_walk.specs.declared.route.Spot.{Spot}
 use Rattle.path_walk.specs.declared.route.End.{End}

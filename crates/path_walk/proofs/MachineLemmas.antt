@@ -1,5 +1,5 @@
 -- The turns of the machine that take more than one look at the program.
-use Rattle.std.proofs.Common.{◌≡◌, ℕ, ◌==◌, ◌<◌, ◌||◌, zero, suc, Bool, true, false, if◌then◌else◌, List, [], ◌∷◌, Option, None, Some, Result, Ok, Err, refl, sym, ap, subst, ◌∙◌, arith}
+use Rattle.std.proofs.Common.{◌≡◌, ℕ, ◌==◌, ◌<◌, ◌||◌, zero, suc, Bool, true, false, if◌then◌else◌, List, ◌∷◌, Option, None, Result, Ok, refl, sym, ap, subst, ◌∙◌, arith}
 use Rattle.wf_core.specs.declared.errno.Errno.{Errno}
 use Rattle.name_store.specs.declared.operation.NameOp.TheVariants.{Parent}
 use Rattle.path_walk.specs.declared.part.Part.{Part}
@@ -27,7 +27,7 @@ use Rattle.path_walk.specs.Programs.{Program, asks}
 use Rattle.path_walk.specs.Walk.{walk, node_in, course_on, program_on}
 use Rattle.path_walk.specs.Calls.{walks, on_ok, unless_fault, changes, change_plan, parent_plan, parent_route, whole_route, move_on, program_of}
 use Rattle.path_walk.specs.Posix.{program}
-use Rattle.path_walk.specs.Machine.{Meets, Shows, fault_of, goal_of, goal_plan, route_of, goal_program, trail_from, walk_of, way_of, way_up, walks_after, with_one_name_less, resumed}
+use Rattle.path_walk.specs.Machine.{Meets, Shows, fault_of, goal_of, goal_plan, route_of, goal_program, trail_from, walk_of, way_of, way_up, walks_after, with_one_name_less}
 
 -- the second path of a move
 pub moves_on : (last : Option Part) (slash : Bool) (new : Result Route Errno) (from : Spot) (route : Route) (trail : Trail) → new ≡ Ok route → trail ≡ trail_from route.parts route.manner route.slash (MoveTo from last (slash || route.slash) route.last) → (program_of (move_on last slash new from) ≡ walk_of trail (way_of trail)) × (walks_after trail.goal < 1)

@@ -1,20 +1,20 @@
 -- What `mkdir` and `symlink` make is there, and nothing else has changed.
-use Rattle.std.proofs.Common.{◌≡◌, ◌≢◌, ◌⊎◌, inl, inr, ℕ, zero, suc, Bool, true, false, List, [], ◌∷◌, ◌++◌, length, Option, None, Some, Result, Ok, Err, refl, sym, ap, subst, ◌∙◌, arith}
+use Rattle.std.proofs.Common.{◌≡◌, ◌≢◌, inl, inr, ℕ, Bool, true, false, List, [], ◌∷◌, ◌++◌, length, Option, None, Some, Result, Ok, refl, sym, ap, subst, ◌∙◌, arith}
 use Rattle.wf_core.specs.declared.errno.Errno.{Errno}
 use Rattle.wf_core.specs.declared.errno.Errno.TheVariants.{Eexist}
 use Rattle.name_store.specs.declared.operation.Node.{Node}
 use Rattle.name_store.specs.declared.operation.Node.TheVariants.{Dir, Link}
 use Rattle.name_store.specs.declared.operation.NameOp.TheVariants.{Makedir, Addlink}
 use Rattle.name_store.specs.declared.operation.NameAnswer.TheVariants.{MadeDir, MadeLink, Fault as NameFault}
-use Rattle.name_store.specs.NameTrees.{Tree, Listing, NamesOutcome, dir_at, entry_at, empty_in, nstep, outcome_of, unless_gone, makedir_outcome, makedir_outcome_at, addlink_outcome, addlink_outcome_at, with_entry_at, with_new_directory, with_new_link}
-use Rattle.name_store.specs.Sound.{IsSound, node_in, node_at, parent_of, parent_at}
+use Rattle.name_store.specs.NameTrees.{Tree, Listing, NamesOutcome, dir_at, entry_at, empty_in, nstep, outcome_of, unless_gone, makedir_outcome_at, addlink_outcome_at, with_entry_at, with_new_directory, with_new_link}
+use Rattle.name_store.specs.Sound.{node_in, node_at, parent_of, parent_at}
 use Rattle.name_store.specs.EntryLaws.{DirectoryMade, LeafMade}
-use Rattle.name_store.proofs.Changes.{same_id, same_place, entered_at, entered_apart, entered_parents, entered_size, more_others, past}
+use Rattle.name_store.proofs.Changes.{same_id, entered_at, entered_apart, entered_parents, entered_size, more_others, past}
 use Rattle.name_store.proofs.EntryLemmas.{makedir_makes, addlink_makes}
 use Rattle.path_walk.specs.declared.route.Manner.TheVariants.{Follows, Stays}
 use Rattle.path_walk.specs.declared.route.Spot.{Spot}
 use Rattle.path_walk.specs.declared.route.End.{End}
-use Rattle.path_walk.specs.declared.route.End.TheVariants.{Directory, LinkText}
+use Rattle.path_walk.specs.declared.route.End.TheVariants.{LinkText}
 use Rattle.path_walk.specs.declared.goal.Change.TheVariants as change
 use Rattle.path_walk.specs.declared.step.StoreAnswer.TheVariants.{Names as NamesAnswer}
 use Rattle.path_walk.specs.declared.step.StepAnswer.TheVariants.{Answered}
@@ -24,7 +24,7 @@ use Rattle.path_walk.specs.Store.{Store, names_at, with_names}
 use Rattle.path_walk.specs.Paths.{slash_of}
 use Rattle.path_walk.specs.PathMeaning.{Way, course, end_of_course, resolve}
 use Rattle.path_walk.specs.Programs.{CallOutcome}
-use Rattle.path_walk.specs.Calls.{Plan, at_once, changes, plan_after, slash_fault, status_plan, text_fault, text_plan, unless_fault, unlinked_by}
+use Rattle.path_walk.specs.Calls.{at_once, changes, plan_after, slash_fault, status_plan, text_fault, text_plan, unless_fault, unlinked_by}
 use Rattle.path_walk.specs.Posix.{posix}
 use Rattle.path_walk.specs.Entries.{NamesEntry, directory_at, node_of, path_end}
 use Rattle.path_walk.specs.EntryLaws.{EntryChanged, LinkIsThere, MadeIsThere}
@@ -48,22 +48,22 @@ parent_there None parent h = cc
 parent_there (Some directory) parent h = (directory, refl)
 
 module _ (tree : Tree) (id : ℕ) (name : List ℕ) (node : Node) (slot : Option Listing) (directory : Listing) (is_there : dir_at tree id ≡ Some directory) (absent : node_at tree id name ≡ None) where
-  abbrev grown : Tree
-  grown = with_entry_at tree id name node ++ slot ∷ []
+  abbrev new_tree : Tree
+  new_tree = with_entry_at tree id name node ++ slot ∷ []
 
-  grown_dir : (other : ℕ) → other ≢ length tree → dir_at grown other ≡ dir_at (with_entry_at tree id name node) other
+  grown_dir : (other : ℕ) → other ≢ length tree → dir_at new_tree other ≡ dir_at (with_entry_at tree id name node) other
   grown_dir other ne = more_others (with_entry_at tree id name node) slot other (λ e. ne (e ∙ entered_size tree id name node))
 
-  grown_parent : (other parent : ℕ) → parent_at tree other ≡ Some parent → parent_at grown other ≡ Some parent
+  grown_parent : (other parent : ℕ) → parent_at tree other ≡ Some parent → parent_at new_tree other ≡ Some parent
   grown_parent other parent h =
       let (d, is) = parent_there (dir_at tree other) parent h in
       ap parent_of (grown_dir other (length_other tree other d is)) ∙ entered_parents tree id name node other ∙ h
 
-  pub grown_here : node_at grown id name ≡ Some node
+  pub grown_here : node_at new_tree id name ≡ Some node
   grown_here =
       ap (λ (d : Option Listing). node_in d name) (grown_dir id (length_other tree id directory is_there)) ∙ entered_at tree id directory.parent name node (ap parent_of is_there)
 
-  grown_node : (other : ℕ) (other_name : List ℕ) (old : Node) → node_at tree other other_name ≡ Some old → node_at grown other other_name ≡ Some old
+  grown_node : (other : ℕ) (other_name : List ℕ) (old : Node) → node_at tree other other_name ≡ Some old → node_at new_tree other other_name ≡ Some old
   grown_node other other_name old h =
       let (d, is) = node_there (dir_at tree other) other_name old h in
       ap (λ (d : Option Listing). node_in d other_name) (grown_dir other (length_other tree other d is))
@@ -74,25 +74,25 @@ module _ (tree : Tree) (id : ℕ) (name : List ℕ) (node : Node) (slot : Option
       clash e f =
           let none : Some old ≡ None = sym h ∙ ap (λ (i : ℕ). node_at tree i other_name) e ∙ ap (node_at tree id) f ∙ absent in cc
 
-  -- a store with the grown tree extends the one before
-  pub store_grown : (store : Store) (backend : ℕ) → names_at store backend ≡ tree → Extends store (with_names store backend grown)
+  -- a store with the new tree extends the one before
+  pub store_grown : (store : Store) (backend : ℕ) → names_at store backend ≡ tree → Extends store (with_names store backend new_tree)
   store_grown store backend is_tree = record { entries = entries_still; parents = parents_still }
     where
-      here_is : names_at (with_names store backend grown) backend ≡ grown
-      here_is = names_here store backend grown id directory (ap (λ (t : Tree). dir_at t id) is_tree ∙ is_there)
+      here_is : names_at (with_names store backend new_tree) backend ≡ new_tree
+      here_is = names_here store backend new_tree id directory (ap (λ (t : Tree). dir_at t id) is_tree ∙ is_there)
 
-      names_are : (P : Tree → Tree → Type 0) (other : ℕ) → P tree grown → (other ≢ backend → P (names_at store other) (names_at store other)) → P (names_at store other) (names_at (with_names store backend grown) other)
-      names_are P other here apart = elim (same_id other backend) as (λ _. P (names_at store other) (names_at (with_names store backend grown) other)) [
+      names_are : (P : Tree → Tree → Type 0) (other : ℕ) → P tree new_tree → (other ≢ backend → P (names_at store other) (names_at store other)) → P (names_at store other) (names_at (with_names store backend new_tree) other)
+      names_are P other here apart = elim (same_id other backend) as (λ _. P (names_at store other) (names_at (with_names store backend new_tree) other)) [
         | inl e ↦
-            subst (λ (t : Tree). P t (names_at (with_names store backend grown) other)) (sym (ap (names_at store) e ∙ is_tree))
-            (subst (λ (t : Tree). P tree t) (sym (ap (names_at (with_names store backend grown)) e ∙ here_is)) here)
-        | inr ne ↦ subst (λ (t : Tree). P (names_at store other) t) (sym (names_other store backend other grown ne)) (apart ne)
+            subst (λ (t : Tree). P t (names_at (with_names store backend new_tree) other)) (sym (ap (names_at store) e ∙ is_tree))
+            (subst (λ (t : Tree). P tree t) (sym (ap (names_at (with_names store backend new_tree)) e ∙ here_is)) here)
+        | inr ne ↦ subst (λ (t : Tree). P (names_at store other) t) (sym (names_other store backend other new_tree ne)) (apart ne)
       ]
 
-      entries_still : (here : Spot) (other_name : List ℕ) (old : Node) → node_of store here other_name ≡ Some old → node_of (with_names store backend grown) here other_name ≡ Some old
+      entries_still : (here : Spot) (other_name : List ℕ) (old : Node) → node_of store here other_name ≡ Some old → node_of (with_names store backend new_tree) here other_name ≡ Some old
       entries_still here other_name old = names_are (λ t u. node_at t here.directory other_name ≡ Some old → node_at u here.directory other_name ≡ Some old) here.backend (grown_node here.directory other_name old) (λ ne h. h)
 
-      parents_still : (here : Spot) (parent : ℕ) → parent_at (names_at store here.backend) here.directory ≡ Some parent → parent_at (names_at (with_names store backend grown) here.backend) here.directory ≡ Some parent
+      parents_still : (here : Spot) (parent : ℕ) → parent_at (names_at store here.backend) here.directory ≡ Some parent → parent_at (names_at (with_names store backend new_tree) here.backend) here.directory ≡ Some parent
       parents_still here parent = names_are (λ t u. parent_at t here.directory ≡ Some parent → parent_at u here.directory ≡ Some parent) here.backend (grown_parent here.directory parent) (λ ne h. h)
 
 -- The last step.
@@ -148,8 +148,8 @@ pub mkdir_makes : (store : Store) (path : List ℕ) → (posix store (Mkdir path
 mkdir_makes store path h =
     let m = mkdir_made store path h in
     let tree : Tree = names_at store m.here.backend in
-    let grown : Tree = with_new_directory tree m.here.directory m.name in
-    let names : names_at (posix store (Mkdir path)).store m.here.backend ≡ grown = ap (λ (s : Store). names_at s m.here.backend) m.new ∙ names_here store m.here.backend grown m.here.directory m.directory m.there in
+    let new_tree : Tree = with_new_directory tree m.here.directory m.name in
+    let names : names_at (posix store (Mkdir path)).store m.here.backend ≡ new_tree = ap (λ (s : Store). names_at s m.here.backend) m.new ∙ names_here store m.here.backend new_tree m.here.directory m.directory m.there in
     record {
       here = m.here;
       name = m.name;
@@ -221,8 +221,8 @@ pub symlink_makes : (store : Store) (text path : List ℕ) → (posix store (Sym
 symlink_makes store text path h =
     let m = symlink_made store text path h in
     let tree : Tree = names_at store m.here.backend in
-    let grown : Tree = with_new_link tree m.here.directory m.name text in
-    let names : names_at (posix store (Symlink text path)).store m.here.backend ≡ grown = ap (λ (s : Store). names_at s m.here.backend) m.new ∙ names_here store m.here.backend grown m.here.directory m.directory m.there in
+    let new_tree : Tree = with_new_link tree m.here.directory m.name text in
+    let names : names_at (posix store (Symlink text path)).store m.here.backend ≡ new_tree = ap (λ (s : Store). names_at s m.here.backend) m.new ∙ names_here store m.here.backend new_tree m.here.directory m.directory m.there in
     record {
       here = m.here;
       name = m.name;

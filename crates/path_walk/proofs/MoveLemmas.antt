@@ -1,6 +1,5 @@
 -- What `rename` moves.
-use Rattle.std.proofs.Common.{◌≡◌, ◌≢◌, ◌⊎◌, inl, inr, ℕ, ◌==◌, ◌||◌, ◌%◌, zero, suc, Bool, true, false, if◌then◌else◌, List, [], ◌∷◌, length, Option, None, Some, Result, Ok, Err, refl, sym, ap, subst, ◌∙◌, arith}
-use Rattle.std.specs.declared.alloc.AllocError.{AllocError}
+use Rattle.std.proofs.Common.{◌≡◌, ◌≢◌, ◌⊎◌, inl, inr, ℕ, ◌==◌, ◌||◌, zero, suc, Bool, true, false, if◌then◌else◌, List, length, Option, None, Some, Result, Ok, refl, sym, ap, subst, ◌∙◌, arith}
 use Rattle.std.proofs.lemmas.Bool.Decides.{nat_tests}
 use Rattle.wf_core.specs.declared.errno.Errno.{Errno}
 use Rattle.wf_core.specs.declared.errno.Errno.TheVariants.{Exdev}
@@ -9,9 +8,9 @@ use Rattle.name_store.specs.declared.operation.Node.TheVariants.{Dir, Link, File
 use Rattle.name_store.specs.declared.operation.NameOp.TheVariants.{Move}
 use Rattle.name_store.specs.declared.operation.NameAnswer.{NameAnswer}
 use Rattle.name_store.specs.declared.operation.NameAnswer.TheVariants as answer
-use Rattle.name_store.specs.NameTrees.{Tree, Listing, NamesOutcome, dir_at, move_outcome, nstep, outcome_of, parent_or_root, unless_gone, up}
+use Rattle.name_store.specs.NameTrees.{Tree, Listing, NamesOutcome, dir_at, entry_at, move_outcome, move_outcome_at, nstep, outcome_of, parent_or_root, unless_gone, up}
 use Rattle.name_store.specs.Forms.{IsForm}
-use Rattle.name_store.specs.Sound.{IsSound, climb, node_at, parent_at, parent_of as parent_in}
+use Rattle.name_store.specs.Sound.{IsSound, climb, node_at, node_in, parent_at, parent_of as parent_in}
 use Rattle.name_store.specs.EntryLaws.{EntryMoved, IsMoved, SaysMoved}
 use Rattle.name_store.specs.Laws.{LeavesTree}
 use Rattle.name_store.proofs.EntryLemmas.{move_moves, same_is_one_entry}
@@ -24,16 +23,14 @@ use Rattle.path_walk.specs.declared.route.Spot.{Spot}
 use Rattle.path_walk.specs.declared.route.Route.{Route}
 use Rattle.path_walk.specs.declared.route.End.{End}
 use Rattle.path_walk.specs.declared.route.End.TheVariants.{Directory}
-use Rattle.path_walk.specs.declared.step.StoreAnswer.TheVariants.{Names as NamesAnswer}
-use Rattle.path_walk.specs.declared.step.StepAnswer.TheVariants.{Answered}
 use Rattle.path_walk.specs.declared.call.Call.TheVariants.{Rename}
 use Rattle.path_walk.specs.declared.call.Reply.TheVariants.{Done}
 use Rattle.path_walk.specs.Store.{Store, names_at, with_names}
 use Rattle.path_walk.specs.Paths.{last_of, parts_of, path_fault, slash_of}
 use Rattle.path_walk.specs.Programs.{CallOutcome}
-use Rattle.path_walk.specs.Calls.{Plan, walks, fails, at_once, on_ok, ok_unless, last_fault, last_step, move_faults, move_on, move_plan, move_step, name_of, parent_of, parent_plan, parent_route, plan_after, unlinked_by}
+use Rattle.path_walk.specs.Calls.{Plan, walks, fails, at_once, on_ok, ok_unless, last_fault, last_step, move_faults, move_on, move_plan, move_step, name_of, parent_of, parent_plan, parent_route}
 use Rattle.path_walk.specs.Posix.{posix}
-use Rattle.path_walk.specs.Entries.{NamesEntry, after_loss, directory_at, node_of, prefix_end}
+use Rattle.path_walk.specs.Entries.{NamesEntry, after_loss, directory_at, prefix_end}
 use Rattle.path_walk.specs.PathLaws.{EntryRelocated, EntryRenamed, IsOneEntry}
 use Rattle.path_walk.proofs.Leads.{same_names}
 use Rattle.path_walk.proofs.StoreLemmas.{names_here}
@@ -198,6 +195,19 @@ module _ (store : Store) (backend : ℕ) (from : ℕ) (name : List ℕ) (to : �
   source_there None h = cc
   source_there (Some directory) h = (directory, refl)
 
+  -- with the slash flag, what was moved is a directory
+  dir_moved : (node over : Option Node) → (after_names store backend (move_outcome_at tree from name to new_name true node over)).reply ≡ Done → (child : ℕ) × (node ≡ Some (Dir child))
+  dir_moved None over h = cc
+  dir_moved (Some (Dir child)) over h = (child, refl)
+  dir_moved (Some (Link id text)) over h = cc
+  dir_moved (Some (FileNode file)) over h = cc
+  dir_moved (Some (Mount mounted)) over h = cc
+
+  source_dir : (directory target : Option Listing) → (after_names store backend (unless_gone tree directory (λ source. unless_gone tree target (move_outcome tree from name to new_name true source)))).reply ≡ Done → (child : ℕ) × (node_in directory name ≡ Some (Dir child))
+  source_dir None target h = cc
+  source_dir (Some source) None h = cc
+  source_dir (Some source) (Some target) h = dir_moved (entry_at source name) (entry_at target new_name) h
+
   same_store : outcome.answer ≡ answer.Same → (after_names store backend outcome).store ≡ store
   same_store e =
       ap (λ (given : NameAnswer). (after_names store backend (outcome_of outcome.tree given)).store) e
@@ -228,8 +238,8 @@ module _ (store : Store) (path new_path : List ℕ) (m : Moves store path new_pa
         same = ap (λ (o : CallOutcome). o.store) (rename_at store path new_path m) ∙ same_store store m.from.backend m.from.directory m.name m.to.directory m.new_name (slash_of path || slash_of new_path) same;
       }
 
-  relocated : SaysMoved moves.answer → (directory : Listing) → directory_at store m.from ≡ Some directory → IsSound old → EntryRelocated store new m.from m.name m.to m.new_name
-  relocated says directory there sound =
+  relocates : SaysMoved moves.answer → (directory : Listing) → directory_at store m.from ≡ Some directory → IsSound old → EntryRelocated store new m.from m.name m.to m.new_name
+  relocates says directory there sound =
       let over : Option Node = node_at old m.to.directory m.new_name in
       let (is_moved, moved) = move_moves old sound m.from.directory m.name m.to.directory m.new_name (slash_of path || slash_of new_path) says in
       let new_is : new ≡ after_loss (with_names store m.from.backend moves.tree) m.from.backend over =
@@ -266,8 +276,10 @@ rename_moves store path new_path h =
       new_name = m.new_name;
       new_names = m.new_names;
       beside = beside;
+      slash = λ ends. source_dir store backend m.from.directory m.name m.to.directory m.new_name slash (dir_at old m.from.directory) (dir_at old m.to.directory)
+          (subst (λ (b : Bool). (after_names store backend (nstep old (Move m.from.directory m.name m.to.directory m.new_name b))).reply ≡ Done) ends done);
       moved = elim (done_answer store backend m.from.directory m.name m.to.directory m.new_name slash done) as (λ _. IsOneEntry store (posix store (Rename path new_path)).store m.from m.name m.to m.new_name ⊎ (IsSound old → EntryRelocated store (posix store (Rename path new_path)).store m.from m.name m.to m.new_name)) [
         | inl same ↦ inl (one_entry store path new_path m beside same)
-        | inr says ↦ inr (λ sound. relocated store path new_path m beside says directory there sound)
+        | inr says ↦ inr (λ sound. relocates store path new_path m beside says directory there sound)
       ];
     }

@@ -1,15 +1,15 @@
 -- What `rmdir` and `unlink` take away is no more, and nothing else has changed.
-use Rattle.std.proofs.Common.{◌≡◌, ◌≢◌, ◌⊎◌, inl, inr, ℕ, ◌%◌, zero, suc, Bool, true, false, List, [], ◌∷◌, length, Option, None, Some, Result, Ok, Err, refl, sym, ap, subst, ◌∙◌}
+use Rattle.std.proofs.Common.{◌≡◌, ◌≢◌, inl, inr, ℕ, ◌%◌, suc, Bool, true, false, List, [], Option, None, Some, Result, Ok, Err, refl, sym, ap, subst, ◌∙◌}
 use Rattle.wf_core.specs.Limits.{group_count, path_names_max, symloop_max}
 use Rattle.wf_core.specs.declared.errno.Errno.{Errno}
-use Rattle.wf_core.specs.declared.errno.Errno.TheVariants.{Enoent, Enotempty}
+use Rattle.wf_core.specs.declared.errno.Errno.TheVariants.{Enoent}
 use Rattle.name_store.specs.declared.operation.Node.{Node}
 use Rattle.name_store.specs.declared.operation.Node.TheVariants.{Dir, Link, File as FileNode, Mount}
 use Rattle.name_store.specs.declared.operation.NameOp.TheVariants.{Remdir, Remfile}
 use Rattle.name_store.specs.declared.operation.NameAnswer.{NameAnswer}
 use Rattle.name_store.specs.declared.operation.NameAnswer.TheVariants.{Done as NameDone, RemovedFile, RemovedLink}
 use Rattle.name_store.specs.NameTrees.{Tree, Listing, NamesOutcome, dir_at, entry_at, is_empty, nstep, outcome_of, unless_gone, remdir_child_outcome, remdir_outcome, remdir_outcome_at, remfile_outcome, remfile_outcome_at, without_directory, without_entry_at}
-use Rattle.name_store.specs.Sound.{IsSound, node_in, node_at, parent_of, parent_at}
+use Rattle.name_store.specs.Sound.{node_in, node_at, parent_of, parent_at}
 use Rattle.name_store.specs.EntryLaws.{DirectoryRemoved, LeafRemoved, Removes}
 use Rattle.name_store.proofs.Changes.{same_id, same_place, Ordered, unlinked_apart, unlinked_at, unlinked_parents, freed_at, freed_others}
 use Rattle.name_store.proofs.EntryLemmas.{remdir_removes, remfile_removes}
@@ -22,12 +22,12 @@ use Rattle.path_walk.specs.declared.route.End.TheVariants.{Directory}
 use Rattle.path_walk.specs.declared.goal.Change.TheVariants as change
 use Rattle.path_walk.specs.declared.call.Call.TheVariants.{Rmdir, Unlink, Lstat}
 use Rattle.path_walk.specs.declared.call.Reply.TheVariants.{Done, Fault}
-use Rattle.path_walk.specs.Store.{Store, names_at, with_names, files_step, group_at}
+use Rattle.path_walk.specs.Store.{Store, names_at, with_names, group_at}
 use Rattle.file_store.specs.FileGroups.{fstep}
 use Rattle.path_walk.specs.Paths.{parts_of, front_of, slash_of}
 use Rattle.path_walk.specs.PathMeaning.{course, end_of_course, resolve, root_of}
 use Rattle.path_walk.specs.Programs.{CallOutcome}
-use Rattle.path_walk.specs.Calls.{at_once, changes, status_plan}
+use Rattle.path_walk.specs.Calls.{at_once, status_plan}
 use Rattle.path_walk.specs.Posix.{posix}
 use Rattle.path_walk.specs.Entries.{HasNamesInOrder, NamesEntry, after_loss, directory_at, node_of, path_end, prefix_end}
 use Rattle.path_walk.specs.EntryLaws.{EntryChanged, LeafUnlinked}
@@ -50,21 +50,21 @@ record RemovedDirectory (store : Store) (path : List ℕ) : Type 0 where
   new : (posix store (Rmdir path)).store ≡ with_names store here.backend (without_directory (without_entry_at (names_at store here.backend) here.directory name) (Some child))
 
 module _ (store : Store) (backend : ℕ) (tree : Tree) (id : ℕ) (name : List ℕ) where
-  abbrev Removed : NamesOutcome → Type 0
-  Removed outcome = (child : ℕ) × (outcome ≡ outcome_of (without_directory (without_entry_at tree id name) (Some child)) NameDone)
+  abbrev TakesChild : NamesOutcome → Type 0
+  TakesChild outcome = (child : ℕ) × (outcome ≡ outcome_of (without_directory (without_entry_at tree id name) (Some child)) NameDone)
 
-  child_done : (child : ℕ) (is_bare : Bool) → (after_names store backend (remdir_child_outcome tree id name child is_bare)).reply ≡ Done → Removed (remdir_child_outcome tree id name child is_bare)
+  child_done : (child : ℕ) (is_bare : Bool) → (after_names store backend (remdir_child_outcome tree id name child is_bare)).reply ≡ Done → TakesChild (remdir_child_outcome tree id name child is_bare)
   child_done child true h = (child, refl)
   child_done child false h = cc
 
-  node_done : (node : Option Node) → (after_names store backend (remdir_outcome_at tree id name node)).reply ≡ Done → Removed (remdir_outcome_at tree id name node)
+  node_done : (node : Option Node) → (after_names store backend (remdir_outcome_at tree id name node)).reply ≡ Done → TakesChild (remdir_outcome_at tree id name node)
   node_done None h = cc
   node_done (Some (Dir child)) h = child_done child (is_empty (dir_at tree child)) h
   node_done (Some (Link link text)) h = cc
   node_done (Some (FileNode file)) h = cc
   node_done (Some (Mount other)) h = cc
 
-  remdir_done : (directory : Option Listing) → (after_names store backend (unless_gone tree directory (remdir_outcome tree id name))).reply ≡ Done → (d : Listing) × (directory ≡ Some d) × Removed (unless_gone tree directory (remdir_outcome tree id name))
+  remdir_done : (directory : Option Listing) → (after_names store backend (unless_gone tree directory (remdir_outcome tree id name))).reply ≡ Done → (d : Listing) × (directory ≡ Some d) × TakesChild (unless_gone tree directory (remdir_outcome tree id name))
   remdir_done None h = cc
   remdir_done (Some directory) h = (directory, refl, node_done (entry_at directory name) h)
 
@@ -125,20 +125,20 @@ none_then second third e (inl f) = f ∙ e
 none_then second third e (inr f) = f
 
 module _ (tree : Tree) (id : ℕ) (name : List ℕ) (gone : Option ℕ) (ordered : Ordered tree id) where
-  abbrev lost : Tree
-  lost = without_directory (without_entry_at tree id name) gone
+  abbrev left_tree : Tree
+  left_tree = without_directory (without_entry_at tree id name) gone
 
-  lost_here : node_at lost id name ≡ None
-  lost_here = none_then (node_at (without_entry_at tree id name) id name) (node_at lost id name) (unlinked_at tree id name ordered) (freed_node (without_entry_at tree id name) gone id name)
+  lost_here : node_at left_tree id name ≡ None
+  lost_here = none_then (node_at (without_entry_at tree id name) id name) (node_at left_tree id name) (unlinked_at tree id name ordered) (freed_node (without_entry_at tree id name) gone id name)
 
-  lost_node : (other : ℕ) (other_name : List ℕ) → SameOrNone (node_at tree other other_name) (node_at lost other other_name)
-  lost_node other other_name = elim (same_place id name other other_name) as (λ _. SameOrNone (node_at tree other other_name) (node_at lost other other_name)) [
-    | inl e ↦ inr (ap (λ (i : ℕ). node_at lost i other_name) e.0 ∙ ap (node_at lost id) e.1 ∙ lost_here)
-    | inr apart ↦ same_then (node_at tree other other_name) (node_at (without_entry_at tree id name) other other_name) (node_at lost other other_name) (unlinked_apart tree id name other other_name apart) (freed_node (without_entry_at tree id name) gone other other_name)
+  lost_node : (other : ℕ) (other_name : List ℕ) → SameOrNone (node_at tree other other_name) (node_at left_tree other other_name)
+  lost_node other other_name = elim (same_place id name other other_name) as (λ _. SameOrNone (node_at tree other other_name) (node_at left_tree other other_name)) [
+    | inl e ↦ inr (ap (λ (i : ℕ). node_at left_tree i other_name) e.0 ∙ ap (node_at left_tree id) e.1 ∙ lost_here)
+    | inr apart ↦ same_then (node_at tree other other_name) (node_at (without_entry_at tree id name) other other_name) (node_at left_tree other other_name) (unlinked_apart tree id name other other_name apart) (freed_node (without_entry_at tree id name) gone other other_name)
   ]
 
-  lost_parent : (other : ℕ) → SameOrNone (parent_at tree other) (parent_at lost other)
-  lost_parent other = same_then (parent_at tree other) (parent_at (without_entry_at tree id name) other) (parent_at lost other) (unlinked_parents tree id name other) (freed_parent (without_entry_at tree id name) gone other)
+  lost_parent : (other : ℕ) → SameOrNone (parent_at tree other) (parent_at left_tree other)
+  lost_parent other = same_then (parent_at tree other) (parent_at (without_entry_at tree id name) other) (parent_at left_tree other) (unlinked_parents tree id name other) (freed_parent (without_entry_at tree id name) gone other)
 
 -- a store whose names of one backend have lost something, whatever became of files
 module _ (store new : Store) (backend : ℕ) (tree left : Tree) (is_tree : names_at store backend ≡ tree) (here_is : names_at new backend ≡ left) (others_are : (other : ℕ) → other ≢ backend → names_at new other ≡ names_at store other) where

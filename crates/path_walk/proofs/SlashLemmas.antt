@@ -1,5 +1,5 @@
 -- A path that ends in a slash names a directory or nothing.
-use Rattle.std.proofs.Common.{◌≡◌, ℕ, ◌==◌, ◌||◌, zero, suc, Bool, true, false, if◌then◌else◌, List, [], ◌∷◌, ◌++◌, Option, None, Some, Result, Ok, Err, refl, sym, ap, subst, ◌∙◌}
+use Rattle.std.proofs.Common.{◌≡◌, ℕ, zero, suc, Bool, true, List, [], ◌∷◌, ◌++◌, Option, None, Some, Result, Ok, Err, refl, sym, ap, subst, ◌∙◌}
 use Rattle.wf_core.specs.Limits.{path_names_max, symloop_max}
 use Rattle.wf_core.specs.declared.errno.Errno.{Errno}
 use Rattle.wf_core.specs.declared.errno.Errno.TheVariants.{Enoent}
@@ -18,10 +18,10 @@ use Rattle.path_walk.specs.declared.goal.Change.{Change}
 use Rattle.path_walk.specs.declared.goal.Change.TheVariants as change
 use Rattle.path_walk.specs.declared.call.Reply.{Reply}
 use Rattle.path_walk.specs.declared.call.Reply.TheVariants.{Fault}
-use Rattle.path_walk.specs.declared.call.Call.TheVariants.{Unlink, Symlink, Readlink, Stat, Lstat}
+use Rattle.path_walk.specs.declared.call.Call.TheVariants.{Unlink, Symlink}
 use Rattle.path_walk.specs.Store.{Store, names_at}
 use Rattle.path_walk.specs.Paths.{parts_of, path_fault, slash_of}
-use Rattle.path_walk.specs.PathMeaning.{Way, course, end_of_course, on_found, parent_in, parent_from, resolve, root_of, spot_beside, start_of}
+use Rattle.path_walk.specs.PathMeaning.{Way, course, end_of_course, on_found, parent_from, resolve, root_of, spot_beside, start_of}
 use Rattle.path_walk.specs.Calls.{Plan, walks, at_once, on_ok, ok_unless, unless_fault, parent_of, parent_plan, parent_route, whole_route, name_of, faults_of, slash_fault, op_of, last_step, change_plan, changes, status_plan, text_plan, text_fault}
 use Rattle.path_walk.specs.Posix.{posix}
 use Rattle.path_walk.specs.Entries.{node_of, path_end}

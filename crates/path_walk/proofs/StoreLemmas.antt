@@ -1,5 +1,5 @@
 -- What a store has after one backend of it has changed.
-use Rattle.std.proofs.Common.{◌≡◌, ◌≢◌, ℕ, zero, suc, List, [], ◌∷◌, Option, None, Some, slice_get, slice_set, unwrap_or, refl, sym, ap}
+use Rattle.std.proofs.Common.{◌≡◌, ◌≢◌, ℕ, zero, suc, List, [], ◌∷◌, Option, None, Some, slice_get, slice_set, unwrap_or, refl, ap}
 use Rattle.name_store.specs.NameTrees.{Tree, Listing, dir_at}
 use Rattle.file_store.specs.FileGroups.{Group}
 use Rattle.path_walk.specs.Store.{Store, Backend, names_at, with_names, with_group}

@@ -1,5 +1,5 @@
 -- How many steps a call may take.
-use Rattle.std.proofs.Common.{◌≡◌, ℕ, ◌+◌, ◌≤◌, ◌==◌, ◌||◌, zero, suc, Bool, true, false, if◌then◌else◌, List, [], ◌∷◌, Option, None, Some, Result, Ok, Err, refl, arith}
+use Rattle.std.proofs.Common.{ℕ, ◌+◌, ◌≤◌, ◌==◌, ◌||◌, zero, suc, Bool, true, false, if◌then◌else◌, List, [], ◌∷◌, Option, None, Some, Result, Ok, Err, arith}
 use Rattle.wf_core.specs.Limits.{path_names_max, symloop_max, call_steps_max}
 use Rattle.wf_core.specs.declared.errno.Errno.{Errno}
 use Rattle.wf_core.specs.declared.errno.Errno.TheVariants.{Exdev}
@@ -23,7 +23,7 @@ use Rattle.path_walk.specs.declared.call.Call.TheVariants as call
 use Rattle.path_walk.specs.PathMeaning.{Way, Course, ends, goes, root_of}
 use Rattle.path_walk.specs.Programs.{Program, finished, asks, IsWithin}
 use Rattle.path_walk.specs.Walk.{program_on, walk, course_on, node_in}
-use Rattle.path_walk.specs.Calls.{Plan, walks, fails, program_of, on_ok, unless_fault, plan, plan_after, unlinked_by, last_step, status_plan, text_plan, list_plan, parent_plan, parent_of, change_plan, changes, name_of, faults_of, move_faults, move_on, move_plan, move_step, slash_fault, op_of, text_fault, parent_route, whole_route}
+use Rattle.path_walk.specs.Calls.{Plan, walks, fails, program_of, on_ok, unless_fault, plan_after, unlinked_by, last_step, status_plan, text_plan, list_plan, parent_plan, parent_of, change_plan, changes, name_of, faults_of, move_faults, move_on, move_plan, slash_fault, op_of, text_fault, parent_route, whole_route}
 use Rattle.path_walk.specs.Posix.{program}
 
 within_more : (p : Program) (few most : ℕ) → few ≤ most → IsWithin few p → IsWithin most p

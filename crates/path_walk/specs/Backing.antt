@@ -1,5 +1,5 @@
 -- What the backends of a store owe to a call.
-use Rattle.std.specs.Prelude.{◌≡◌, ℕ, ◌<◌}
+use Rattle.std.specs.Prelude.{ℕ, ◌<◌}
 use Rattle.wf_core.specs.Limits.{group_count}
 use Rattle.name_store.specs.declared.operation.Node.{Node}
 use Rattle.name_store.specs.declared.operation.Node.TheVariants.{Mount}

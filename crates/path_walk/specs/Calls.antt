@@ -1,7 +1,7 @@
 -- Each call as a plan: which paths it walks, what it asks for at their ends, and what it replies. After POSIX.1-2017,
 -- XSH mkdir(), rmdir(), unlink(), symlink(), rename(), readlink(), stat() and lstat(); `list` is this project's own,
 -- after readdir(). A row marked (own) is this project's reading where POSIX leaves it open, or its own limit.
-use Rattle.std.specs.Prelude.{ℕ, ◌==◌, ◌%◌, ◌||◌, zero, suc, nat_lt, if◌then◌else◌, Bool, true, false, List, [], ◌∷◌, length, Option, None, Some, Result, Ok, Err}
+use Rattle.std.specs.Prelude.{ℕ, ◌==◌, ◌%◌, ◌||◌, zero, nat_lt, if◌then◌else◌, Bool, true, List, length, Option, None, Some, Result, Ok, Err}
 use Rattle.wf_core.specs.Limits.{group_count, path_names_max, symloop_max, symlink_max}
 use Rattle.wf_core.specs.declared.errno.Errno.{Errno}
 use Rattle.wf_core.specs.declared.errno.Errno.TheVariants.{Enoent, Eexist, Enotdir, Eisdir, Enotempty, Einval, Ebusy, Exdev, Enametoolong, Ecanceled, Enxio}

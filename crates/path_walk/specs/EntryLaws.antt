@@ -12,7 +12,7 @@ use Rattle.path_walk.specs.declared.call.Call.{Call}
 use Rattle.path_walk.specs.declared.call.Call.TheVariants.{Mkdir, Rmdir, Unlink, Symlink, Readlink, Stat, Lstat}
 use Rattle.path_walk.specs.declared.call.Reply.TheVariants.{Done, Dir, Link as LinkReply, Text, Fault}
 use Rattle.path_walk.specs.Store.{Store, names_at, with_names}
-use Rattle.path_walk.specs.Entries.{HasNamesInOrder, NamesEntry, after_loss, node_of}
+use Rattle.path_walk.specs.Entries.{HasNamesInOrder, NamesEntry, after_loss}
 use Rattle.path_walk.specs.Posix.{posix}
 
 -- the entry that a path names was changed so, in the names of its directory's backend, and nothing else was

@@ -1,5 +1,5 @@
 -- What a machine of one call stands for: the program that is left of the call.
-use Rattle.std.specs.Prelude.{◌≡◌, ℕ, ◌-◌, ◌<◌, Bool, List, ◌∷◌, Option, None, Some, Result, Ok}
+use Rattle.std.specs.Prelude.{◌≡◌, ℕ, ◌-◌, ◌<◌, Bool, List, ◌∷◌, Option, None, Some, Result}
 use Rattle.wf_core.specs.Limits.{path_names_max, symloop_max}
 use Rattle.wf_core.specs.declared.errno.Errno.{Errno}
 use Rattle.path_walk.specs.declared.step.StepAnswer.{StepAnswer}
@@ -23,7 +23,7 @@ use Rattle.path_walk.specs.declared.trail.Advance.TheVariants.{Asks, Ends}
 use Rattle.path_walk.specs.declared.goal.Goal.TheVariants.{Status, Text, Names, Entry, MoveFrom, MoveTo}
 use Rattle.path_walk.specs.declared.trail.Trail.{Trail}
 use Rattle.path_walk.specs.declared.trail.Stage.{Stage}
-use Rattle.path_walk.specs.declared.trail.Stage.TheVariants.{Start, Walking, LastOnNames, LastOnFiles, Over}
+use Rattle.path_walk.specs.declared.trail.Stage.TheVariants.{Start, Walking, LastOnNames, LastOnFiles}
 use Rattle.name_store.specs.declared.operation.Node.{Node}
 use Rattle.path_walk.specs.declared.trail.Onward.{Onward}
 use Rattle.path_walk.specs.declared.trail.Onward.TheVariants.{Ends as EndsThere, Goes}

@@ -114,6 +114,8 @@ pub record EntryRenamed (old new : Store) (path new_path : List ℕ) : Type 0 wh
   pub new_name : List ℕ
   pub new_names : NamesEntry old new_path to new_name
   pub beside : from.backend ≡ to.backend
+  -- a slash at the end of either path asks for a directory
+  pub slash : slash_of path || slash_of new_path ≡ true → (child : ℕ) × (node_of old from name ≡ Some (Dir child))
   pub moved : IsOneEntry old new from name to new_name ⊎ (IsSound (names_at old from.backend) → EntryRelocated old new from name to new_name)
 
 -- after `rename` the new name is what the old one was, and the old one is no more, unless both are one entry

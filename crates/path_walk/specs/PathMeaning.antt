@@ -11,7 +11,7 @@ use Rattle.name_store.specs.NameTrees.{Listing, dir_at, entry_at}
 use Rattle.path_walk.specs.declared.part.Part.{Part}
 use Rattle.path_walk.specs.declared.part.Part.TheVariants.{Here, Up, Down, TooLong}
 use Rattle.path_walk.specs.declared.route.Manner.{Manner}
-use Rattle.path_walk.specs.declared.route.Manner.TheVariants.{OnWay, Follows, Stays}
+use Rattle.path_walk.specs.declared.route.Manner.TheVariants.{OnWay, Stays}
 use Rattle.path_walk.specs.declared.route.Spot.{Spot}
 use Rattle.path_walk.specs.declared.route.End.{End}
 use Rattle.path_walk.specs.declared.route.End.TheVariants.{Directory, File, LinkText}

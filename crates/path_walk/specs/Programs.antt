@@ -1,6 +1,6 @@
 -- A call as the steps that it takes: which step comes next, given the answers so far, and the reply.
 -- Between two steps others may change the store.
-use Rattle.std.specs.Prelude.{◌≡◌, ℕ, zero, suc, List, [], ◌∷◌, Result, Ok, Err}
+use Rattle.std.specs.Prelude.{◌≡◌, ℕ, zero, suc, List, [], ◌∷◌, Result, Ok}
 use Rattle.std.specs.declared.alloc.AllocError.{AllocError}
 use Rattle.path_walk.specs.declared.step.CellId.{CellId}
 use Rattle.path_walk.specs.declared.step.StoreOp.{StoreOp}

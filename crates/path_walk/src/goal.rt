@@ -297,7 +297,8 @@ impl Goal {
 }
 
 fn move_from(last: Option<Part>, slash: bool, new: Result<Route, Errno>, from: Spot) -> Reached
-    ensures { Reaches (Goal.MoveFrom last slash new) (program_of (move_on last slash new from)) result }
+    ensures { Reaches (Goal.MoveFrom last slash new)
+        (program_of (move_on last slash new from)) result }
 {
     match new {
         Err(errno) => Reached::Turn(fault(errno)),

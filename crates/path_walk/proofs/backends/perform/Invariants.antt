@@ -1,5 +1,4 @@
-use Rattle.std.proofs.Common.{◌≡◌, ◌≤◌}
-use Rattle.wf_core.specs.Limits.{call_steps_max}
+use Rattle.std.proofs.Common.{◌≡◌}
 use Rattle.path_walk.proofs.Along.{Along}
 use Rattle.path_walk.proofs.backends.perform.Given as goal
 
