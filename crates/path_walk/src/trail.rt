@@ -184,7 +184,8 @@ impl Trail {
         alloc: Global,
         found: Result<Option<Node>, Errno>,
     ) -> Result<Onward, AllocError>
-        ensures ok { IfOk result (λ onward. Meets self.old (course_of self.old found) onward self.new) }
+        ensures ok { IfOk result
+            (λ onward. Meets self.old (course_of self.old found) onward self.new) }
         ensures err { OnErr result (self.new ≡ self.old) }
     {
         let node = match found {
