@@ -19,7 +19,8 @@ use Rattle.path_walk.specs.Paths.{parts_of, last_of, front_of, slash_of, path_fa
 use Rattle.path_walk.specs.PathMeaning.{course, end_of_course, root_of, resolve}
 use Rattle.path_walk.specs.Calls.{Plan, walks, on_ok, ok_unless, unless_fault, at_once, last_fault, last_step, parent_of, parent_plan, parent_route, whole_route, name_of, faults_of, slash_fault, op_of, change_plan, changes}
 use Rattle.path_walk.specs.Entries.{NamesEntry, node_of, path_end, prefix_end}
-use Rattle.path_walk.proofs.Leading.{Continues, leads_on, resolve_down, Extends, leads_still}
+use Rattle.path_walk.specs.PathLaws.{LeadsOn}
+use Rattle.path_walk.proofs.Leading.{leads_on, resolve_down, Extends, leads_still}
 
 pub on_ok_done : {A : Type 0} (store : Store) (r : Result A Errno) (next : A → Plan) → (at_once store (on_ok r next)).reply ≡ Done → (x : A) × (r ≡ Ok x) × ((at_once store (next x)).reply ≡ Done)
 on_ok_done store (Ok x) next h = (x, refl, h)
@@ -96,21 +97,21 @@ last_ends parts last h =
     ∙ ap (λ (part : Part). front_of parts ++ part ∷ []) (get_or_from_slice_get parts (length parts - 1) last last h)
 
 -- a path goes on from the end of its prefix
-pub path_continues : (store : Store) (manner : Manner) (path : List ℕ) (last : Part) → last_of (parts_of path) ≡ Some last → Continues store last [] manner (slash_of path) (prefix_end store path) (path_end store manner path)
+pub path_continues : (store : Store) (manner : Manner) (path : List ℕ) (last : Part) → last_of (parts_of path) ≡ Some last → LeadsOn store last [] manner (slash_of path) (prefix_end store path) (path_end store manner path)
 path_continues store manner path last is =
-    subst (λ (parts : List Part). Continues store last [] manner (slash_of path) (prefix_end store path) (resolve store path_names_max parts manner (slash_of path) symloop_max (root_of 0))) (sym (last_ends (parts_of path) last is))
+    subst (λ (parts : List Part). LeadsOn store last [] manner (slash_of path) (prefix_end store path) (resolve store path_names_max parts manner (slash_of path) symloop_max (root_of 0))) (sym (last_ends (parts_of path) last is))
     (leads_on store last [] manner (slash_of path) path_names_max (front_of (parts_of path)) (slash_of path) symloop_max (root_of 0))
 
 -- the end of a path that names an entry, from what is there
 pub entry_end : (store : Store) (manner : Manner) (path : List ℕ) (here : Spot) (name : List ℕ) (names : NamesEntry store path here name) → (links : ℕ) × (path_end store manner path ≡ end_of_course (course manner (node_of store here name) [] (slash_of path) links here) (λ w. resolve store names.left w.rest manner w.slash w.links w.spot))
 entry_end store manner path here name names =
-    let (links, is) = subst (λ (end : Result End Errno). Continues store (Down name) [] manner (slash_of path) end (path_end store manner path)) names.prefix (path_continues store manner path (Down name) names.last) in
+    let (links, is) = subst (λ (end : Result End Errno). LeadsOn store (Down name) [] manner (slash_of path) end (path_end store manner path)) names.prefix (path_continues store manner path (Down name) names.last) in
     (links, is ∙ resolve_down store names.left name [] manner (slash_of path) links here)
 
 -- a path whose prefix fails fails so
 pub prefix_fails : (store : Store) (manner : Manner) (path : List ℕ) (last : Part) (error : Errno) → last_of (parts_of path) ≡ Some last → prefix_end store path ≡ Err error → path_end store manner path ≡ Err error
 prefix_fails store manner path last error is fails =
-    subst (λ (end : Result End Errno). Continues store last [] manner (slash_of path) end (path_end store manner path)) fails (path_continues store manner path last is)
+    subst (λ (end : Result End Errno). LeadsOn store last [] manner (slash_of path) end (path_end store manner path)) fails (path_continues store manner path last is)
 
 -- in a store that has grown, a path names the entry that it named
 pub names_still : (earlier later : Store) (path : List ℕ) (here : Spot) (name : List ℕ) → Extends earlier later → NamesEntry earlier path here name → NamesEntry later path here name

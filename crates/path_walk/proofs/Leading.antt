@@ -15,6 +15,7 @@ use Rattle.path_walk.specs.declared.route.End.{End}
 use Rattle.path_walk.specs.declared.route.End.TheVariants.{Directory, File, LinkText}
 use Rattle.path_walk.specs.Store.{Store, names_at}
 use Rattle.path_walk.specs.Entries.{node_of}
+use Rattle.path_walk.specs.PathLaws.{LeadsOn}
 use Rattle.path_walk.specs.Paths.{parts_of, slash_of}
 use Rattle.path_walk.specs.PathMeaning.{Way, Course, ends, goes, course, end_of_course, on_found, entry_in, parent_in, parent_from, root_of, start_of, spot_beside, resolve}
 
@@ -28,16 +29,9 @@ resolve_down store names name rest manner slash links here = entry_course (dir_a
 
 -- On from the end of a prefix.
 
--- a prefix ends in an error, or at a directory from which the rest goes on
-abbrev pub Continues : Store → Part → List Part → Manner → Bool → Result End Errno → Result End Errno → Type 0
-Continues store rest more manner slash (Err error) whole = whole ≡ Err error
-Continues store rest more manner slash (Ok (Directory left there)) whole = (links : ℕ) × (whole ≡ resolve store left (rest ∷ more) manner slash links there)
-Continues store rest more manner slash (Ok (File backend file)) whole = ⊥
-Continues store rest more manner slash (Ok (LinkText text)) whole = ⊥
-
 module _ (store : Store) (rest : Part) (more : List Part) (manner : Manner) (slash : Bool) where
   abbrev On : Result End Errno → Result End Errno → Type 0
-  On = Continues store rest more manner slash
+  On = LeadsOn store rest more manner slash
 
   found_on : {A : Type 0} (first : Result A Errno) (prefix whole : A → Result End Errno) → ((x : A) → On (prefix x) (whole x)) → On (on_found first prefix) (on_found first whole)
   found_on (Ok x) prefix whole each = each x

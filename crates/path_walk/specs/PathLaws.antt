@@ -1,9 +1,10 @@
 -- Laws of the definitions, which say what a user may conclude of links, slashes, lists and moves: POSIX.1-2017, XBD 4.13
 -- and XSH readdir() and rename().
-use Rattle.std.specs.Prelude.{◌≡◌, ◌⊎◌, ℕ, ◌+◌, ◌*◌, ◌≤◌, ◌||◌, zero, suc, Bool, true, List, [], ◌∷◌, ◌++◌, length, take, drop, None, Some, Ok, Err}
+use Rattle.std.specs.Prelude.{◌≡◌, ◌⊎◌, ℕ, ◌+◌, ◌*◌, ◌≤◌, ◌||◌, zero, suc, Bool, true, List, [], ◌∷◌, ◌++◌, length, take, drop, None, Some, Result, Ok, Err}
 use Rattle.std.specs.Map.{keys_of}
 use Rattle.std.specs.List.Sorted.{IsStrictlySortedBy}
 use Rattle.wf_core.specs.Limits.{list_max}
+use Rattle.wf_core.specs.declared.errno.Errno.{Errno}
 use Rattle.wf_core.specs.declared.errno.Errno.TheVariants.{Eloop}
 use Rattle.name_store.specs.declared.operation.Node.TheVariants.{Dir, Link as LinkNode}
 use Rattle.name_store.specs.NameTrees.{Listing, byte_order}
@@ -12,9 +13,10 @@ use Rattle.name_store.specs.EntryLaws.{EntryMoved}
 use Rattle.path_walk.specs.declared.part.Part.{Part}
 use Rattle.path_walk.specs.declared.part.Part.TheVariants.{Down}
 use Rattle.path_walk.specs.declared.route.Manner.{Manner}
-use Rattle.path_walk.specs.declared.route.Manner.TheVariants.{Follows}
+use Rattle.path_walk.specs.declared.route.Manner.TheVariants.{OnWay, Follows}
 use Rattle.path_walk.specs.declared.route.Spot.{Spot}
-use Rattle.path_walk.specs.declared.route.End.TheVariants.{Directory}
+use Rattle.path_walk.specs.declared.route.End.{End}
+use Rattle.path_walk.specs.declared.route.End.TheVariants.{Directory, File, LinkText}
 use Rattle.path_walk.specs.declared.call.Call.TheVariants.{Unlink, Symlink, Rename, Readlink, Stat, Lstat, List as ListCall}
 use Rattle.path_walk.specs.declared.call.Reply.{Reply}
 use Rattle.path_walk.specs.declared.call.Reply.TheVariants.{Dir as DirReply, Names, Fault}
@@ -25,6 +27,20 @@ use Rattle.path_walk.specs.Programs.{replied}
 use Rattle.path_walk.specs.Posix.{posix}
 use Rattle.path_walk.specs.Entries.{HasNamesInOrder, NamesEntry, after_loss, directory_at, node_of, path_end}
 use Rattle.path_walk.specs.EntryLaws.{IsDone}
+
+-- First components.
+
+-- the end of a walk along its first components is an error, which is the whole walk's too, or a directory, from which the
+-- others lead on with the names that are left to take, and with some number of links
+abbrev pub LeadsOn : Store → Part → List Part → Manner → Bool → Result End Errno → Result End Errno → Type 0
+LeadsOn store part rest manner slash (Err error) whole = whole ≡ Err error
+LeadsOn store part rest manner slash (Ok (Directory left there)) whole = (links : ℕ) × (whole ≡ resolve store left (part ∷ rest) manner slash links there)
+LeadsOn store part rest manner slash (Ok (File backend file)) whole = ⊥
+LeadsOn store part rest manner slash (Ok (LinkText text)) whole = ⊥
+
+-- components lead where the later ones lead from where the first ones lead, as directories on the way
+abbrev pub ComponentsLeadOn : Type 0
+ComponentsLeadOn = (store : Store) (part : Part) (rest : List Part) (manner : Manner) (slash : Bool) (names : ℕ) (front : List Part) (links : ℕ) (here : Spot) → LeadsOn store part rest manner slash (resolve store names front OnWay slash links here) (resolve store names (front ++ part ∷ rest) manner slash links here)
 
 -- Links.
 

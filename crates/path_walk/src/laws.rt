@@ -1,7 +1,7 @@
 //! What a user may conclude from the definitions. The functions do nothing: each clause is a law.
 
 ghost use Rattle.path_walk.specs.EntryLaws.{MkdirMakes, MkdirThenStat, RmdirRemoves, RmdirThenLstat, SymlinkMakes, SymlinkThenReadlink, UnlinkRemoves, UnlinkThenLstat};
-ghost use Rattle.path_walk.specs.PathLaws.{LinksLead, ListNamesEachOnce, RenameMoves, SlashesAskForDirectories};
+ghost use Rattle.path_walk.specs.PathLaws.{ComponentsLeadOn, LinksLead, ListNamesEachOnce, RenameMoves, SlashesAskForDirectories};
 ghost use Rattle.path_walk.specs.Laws.{CallsEnd, CallsStayAmong, ErrorsChangeNothing, StepsAreTheCall};
 
 /// The steps of a call, taken one after another by nobody else, are the call at once.
@@ -62,6 +62,11 @@ pub fn unlink_removes()
 /// What `unlink` took away is not there.
 pub fn unlink_then_lstat()
     ensures { UnlinkThenLstat }
+{}
+
+/// Components lead where the later ones lead from where the first ones lead.
+pub fn components_lead_on()
+    ensures { ComponentsLeadOn }
 {}
 
 /// Components through a link lead where the components of its text in its place lead, with one name and one link fewer.
