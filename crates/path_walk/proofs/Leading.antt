@@ -12,7 +12,6 @@ use Rattle.path_walk.specs.declared.route.Manner.{Manner}
 use Rattle.path_walk.specs.declared.route.Manner.TheVariants.{OnWay}
 use Rattle.path_walk.specs.declared.route.Spot.{Spot}
 use Rattle.path_walk.specs.declared.route.End.{End}
-use Rattle.path_walk.specs.declared.route.End.TheVariants.{Directory, File, LinkText}
 use Rattle.path_walk.specs.Store.{Store, names_at}
 use Rattle.path_walk.specs.Entries.{node_of}
 use Rattle.path_walk.specs.PathLaws.{LeadsOn}

@@ -1,5 +1,6 @@
 pub mod Components
 pub mod Leads
+pub mod Plans
 pub mod Within
 pub mod Among
 pub mod Along
