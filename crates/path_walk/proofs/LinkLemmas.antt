@@ -30,5 +30,5 @@ links_lead store names id name text rest manner slash here is h =
     let next : Way → Result End Errno = λ w. resolve store names w.rest manner w.slash w.links w.spot in
     record {
       on = λ links. resolve_down store names name rest manner slash (suc links) here ∙ ap (λ (n : Option Node). end_of_course (course manner n rest slash (suc links) here) next) is ∙ through id links text rest manner slash here next h;
-      last = resolve_down store names name rest manner slash 0 here ∙ ap (λ (n : Option Node). end_of_course (course manner n rest slash 0 here) next) is ∙ through_none id text rest manner slash here next h;
+      none_left = resolve_down store names name rest manner slash 0 here ∙ ap (λ (n : Option Node). end_of_course (course manner n rest slash 0 here) next) is ∙ through_none id text rest manner slash here next h;
     }

@@ -1,5 +1,5 @@
 -- What `mkdir` and `symlink` make is there, and nothing else has changed.
-use Rattle.std.proofs.Common.{◌≡◌, ◌≢◌, inl, inr, ℕ, Bool, true, false, List, [], ◌∷◌, ◌++◌, length, Option, None, Some, Result, Ok, refl, sym, ap, subst, ◌∙◌, arith}
+use Rattle.std.proofs.Common.{◌≡◌, ◌≢◌, ℕ, Bool, true, false, List, [], ◌∷◌, ◌++◌, length, Option, None, Some, Result, Ok, refl, sym, ap, subst, ◌∙◌, arith}
 use Rattle.wf_core.specs.declared.errno.Errno.{Errno}
 use Rattle.wf_core.specs.declared.errno.Errno.TheVariants.{Eexist}
 use Rattle.name_store.specs.declared.operation.Node.{Node}
@@ -9,7 +9,7 @@ use Rattle.name_store.specs.declared.operation.NameAnswer.TheVariants.{MadeDir, 
 use Rattle.name_store.specs.NameTrees.{Tree, Listing, NamesOutcome, dir_at, entry_at, empty_in, nstep, outcome_of, unless_gone, makedir_outcome_at, addlink_outcome_at, with_entry_at, with_new_directory, with_new_link}
 use Rattle.name_store.specs.Sound.{node_in, node_at, parent_of, parent_at}
 use Rattle.name_store.specs.EntryLaws.{DirectoryMade, LeafMade}
-use Rattle.name_store.proofs.Changes.{same_id, entered_at, entered_apart, entered_parents, entered_size, more_others, past}
+use Rattle.name_store.proofs.Changes.{entered_at, entered_apart, entered_parents, entered_size, more_others, past}
 use Rattle.name_store.proofs.EntryLemmas.{makedir_makes, addlink_makes}
 use Rattle.path_walk.specs.declared.route.Manner.TheVariants.{Follows, Stays}
 use Rattle.path_walk.specs.declared.route.Spot.{Spot}
@@ -28,7 +28,7 @@ use Rattle.path_walk.specs.Calls.{at_once, changes, plan_after, slash_fault, sta
 use Rattle.path_walk.specs.Posix.{posix}
 use Rattle.path_walk.specs.Entries.{NamesEntry, directory_at, node_of, path_end}
 use Rattle.path_walk.specs.EntryLaws.{EntryChanged, LinkIsThere, MadeIsThere}
-use Rattle.path_walk.proofs.StoreLemmas.{names_here, names_other}
+use Rattle.path_walk.proofs.StoreLemmas.{names_by, names_here, names_other}
 use Rattle.path_walk.proofs.Leading.{Extends}
 use Rattle.path_walk.proofs.ChangeLemmas.{change_done, change_at, entry_end, names_still, unless_done, whole_at}
 
@@ -81,19 +81,14 @@ module _ (tree : Tree) (id : ℕ) (name : List ℕ) (node : Node) (slot : Option
       here_is : names_at (with_names store backend new_tree) backend ≡ new_tree
       here_is = names_here store backend new_tree id directory (ap (λ (t : Tree). dir_at t id) is_tree ∙ is_there)
 
-      names_are : (P : Tree → Tree → Type 0) (other : ℕ) → P tree new_tree → (other ≢ backend → P (names_at store other) (names_at store other)) → P (names_at store other) (names_at (with_names store backend new_tree) other)
-      names_are P other here apart = elim (same_id other backend) as (λ _. P (names_at store other) (names_at (with_names store backend new_tree) other)) [
-        | inl e ↦
-            subst (λ (t : Tree). P t (names_at (with_names store backend new_tree) other)) (sym (ap (names_at store) e ∙ is_tree))
-            (subst (λ (t : Tree). P tree t) (sym (ap (names_at (with_names store backend new_tree)) e ∙ here_is)) here)
-        | inr ne ↦ subst (λ (t : Tree). P (names_at store other) t) (sym (names_other store backend other new_tree ne)) (apart ne)
-      ]
+      names_are : (P : Tree → Tree → Type 0) (other : ℕ) → P tree new_tree → P (names_at store other) (names_at store other) → P (names_at store other) (names_at (with_names store backend new_tree) other)
+      names_are = names_by store (with_names store backend new_tree) backend tree new_tree is_tree here_is (λ other ne. names_other store backend other new_tree ne)
 
       entries_still : (here : Spot) (other_name : List ℕ) (old : Node) → node_of store here other_name ≡ Some old → node_of (with_names store backend new_tree) here other_name ≡ Some old
-      entries_still here other_name old = names_are (λ t u. node_at t here.directory other_name ≡ Some old → node_at u here.directory other_name ≡ Some old) here.backend (grown_node here.directory other_name old) (λ ne h. h)
+      entries_still here other_name old = names_are (λ t u. node_at t here.directory other_name ≡ Some old → node_at u here.directory other_name ≡ Some old) here.backend (grown_node here.directory other_name old) (λ h. h)
 
       parents_still : (here : Spot) (parent : ℕ) → parent_at (names_at store here.backend) here.directory ≡ Some parent → parent_at (names_at (with_names store backend new_tree) here.backend) here.directory ≡ Some parent
-      parents_still here parent = names_are (λ t u. parent_at t here.directory ≡ Some parent → parent_at u here.directory ≡ Some parent) here.backend (grown_parent here.directory parent) (λ ne h. h)
+      parents_still here parent = names_are (λ t u. parent_at t here.directory ≡ Some parent → parent_at u here.directory ≡ Some parent) here.backend (grown_parent here.directory parent) (λ h. h)
 
 -- The last step.
 

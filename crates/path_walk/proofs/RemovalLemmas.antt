@@ -31,7 +31,7 @@ use Rattle.path_walk.specs.Calls.{at_once, status_plan}
 use Rattle.path_walk.specs.Posix.{posix}
 use Rattle.path_walk.specs.Entries.{HasNamesInOrder, NamesEntry, after_loss, directory_at, node_of, path_end, prefix_end}
 use Rattle.path_walk.specs.EntryLaws.{EntryChanged, LeafUnlinked}
-use Rattle.path_walk.proofs.StoreLemmas.{names_here, names_other, names_grouped}
+use Rattle.path_walk.proofs.StoreLemmas.{names_by, names_here, names_other, names_grouped}
 use Rattle.path_walk.proofs.Leading.{Loses, SameOrNone, SameOrAbsent, leads_or_lost}
 use Rattle.path_walk.proofs.ChangeLemmas.{change_done, change_at, entry_end, prefix_fails, whole_at}
 use Rattle.path_walk.proofs.MakingLemmas.{after_names}
@@ -142,16 +142,10 @@ module _ (tree : Tree) (id : ℕ) (name : List ℕ) (gone : Option ℕ) (ordered
 
 -- a store whose names of one backend have lost something, whatever became of files
 module _ (store new : Store) (backend : ℕ) (tree left : Tree) (is_tree : names_at store backend ≡ tree) (here_is : names_at new backend ≡ left) (others_are : (other : ℕ) → other ≢ backend → names_at new other ≡ names_at store other) where
-  names_lost : (P : Tree → Tree → Type 0) (other : ℕ) → P tree left → P (names_at store other) (names_at store other) → P (names_at store other) (names_at new other)
-  names_lost P other here apart = elim (same_id other backend) as (λ _. P (names_at store other) (names_at new other)) [
-    | inl e ↦ subst (λ (t : Tree). P t (names_at new other)) (sym (ap (names_at store) e ∙ is_tree)) (subst (λ (t : Tree). P tree t) (sym (ap (names_at new) e ∙ here_is)) here)
-    | inr ne ↦ subst (λ (t : Tree). P (names_at store other) t) (sym (others_are other ne)) apart
-  ]
-
   store_loses : ((id : ℕ) (name : List ℕ) → SameOrNone (node_at tree id name) (node_at left id name)) → ((id : ℕ) → SameOrNone (parent_at tree id) (parent_at left id)) → Loses store new
   store_loses nodes parents = record {
-    entries = λ here name. names_lost (λ t u. SameOrNone (node_at t here.directory name) (node_at u here.directory name)) here.backend (nodes here.directory name) (inl refl);
-    parents = λ here. names_lost (λ t u. SameOrNone (parent_at t here.directory) (parent_at u here.directory)) here.backend (parents here.directory) (inl refl);
+    entries = λ here name. names_by store new backend tree left is_tree here_is others_are (λ t u. SameOrNone (node_at t here.directory name) (node_at u here.directory name)) here.backend (nodes here.directory name) (inl refl);
+    parents = λ here. names_by store new backend tree left is_tree here_is others_are (λ t u. SameOrNone (parent_at t here.directory) (parent_at u here.directory)) here.backend (parents here.directory) (inl refl);
   }
 
 absent_at_end : (error : Result End Errno) → error ≡ Err Enoent → (store : Store) → (at_once store (status_plan error)).reply ≡ Fault Enoent

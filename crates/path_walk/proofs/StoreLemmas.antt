@@ -1,5 +1,6 @@
 -- What a store has after one backend of it has changed.
-use Rattle.std.proofs.Common.{◌≡◌, ◌≢◌, ℕ, zero, suc, List, [], ◌∷◌, Option, None, Some, slice_get, slice_set, unwrap_or, refl, ap}
+use Rattle.std.proofs.Common.{inl, inr, subst, ◌∙◌, ◌≡◌, ◌≢◌, ℕ, zero, suc, List, [], ◌∷◌, Option, None, Some, slice_get, slice_set, unwrap_or, refl, sym, ap}
+use Rattle.name_store.proofs.Changes.{same_id}
 use Rattle.name_store.specs.NameTrees.{Tree, Listing, dir_at}
 use Rattle.file_store.specs.FileGroups.{Group}
 use Rattle.path_walk.specs.Store.{Store, Backend, names_at, with_names, with_group}
@@ -39,3 +40,10 @@ names_grouped (x ∷ store) zero number group zero = refl
 names_grouped (x ∷ store) zero number group (suc other) = refl
 names_grouped (x ∷ store) (suc backend) number group zero = refl
 names_grouped (x ∷ store) (suc backend) number group (suc other) = names_grouped store backend number group other
+
+-- what holds between the names of one backend before and after, and of all others with themselves, holds of each
+pub names_by : (store new : Store) (backend : ℕ) (tree left : Tree) → names_at store backend ≡ tree → names_at new backend ≡ left → ((other : ℕ) → other ≢ backend → names_at new other ≡ names_at store other) → (P : Tree → Tree → Type 0) (other : ℕ) → P tree left → P (names_at store other) (names_at store other) → P (names_at store other) (names_at new other)
+names_by store new backend tree left is_tree here_is others_are P other here apart = elim (same_id other backend) as (λ _. P (names_at store other) (names_at new other)) [
+  | inl e ↦ subst (λ (t : Tree). P t (names_at new other)) (sym (ap (names_at store) e ∙ is_tree)) (subst (λ (t : Tree). P tree t) (sym (ap (names_at new) e ∙ here_is)) here)
+  | inr ne ↦ subst (λ (t : Tree). P (names_at store other) t) (sym (others_are other ne)) apart
+]

@@ -59,7 +59,7 @@ slash_behind (part ∷ rest) slash text = slash
 -- followed any more, it is ELOOP.
 pub record LinkLeads (store : Store) (names : ℕ) (name text : List ℕ) (rest : List Part) (manner : Manner) (slash : Bool) (here : Spot) : Type 0 where
   pub on : (links : ℕ) → resolve store (suc names) (Down name ∷ rest) manner slash (suc links) here ≡ resolve store names (parts_of text ++ rest) manner (slash_behind rest slash text) links (start_of text here)
-  pub last : resolve store (suc names) (Down name ∷ rest) manner slash 0 here ≡ Err Eloop
+  pub none_left : resolve store (suc names) (Down name ∷ rest) manner slash 0 here ≡ Err Eloop
 
 abbrev pub LinksLead : Type 0
 LinksLead = (store : Store) (names id : ℕ) (name text : List ℕ) (rest : List Part) (manner : Manner) (slash : Bool) (here : Spot) → node_of store here name ≡ Some (LinkNode id text) → is_followed_before rest manner slash ≡ true → LinkLeads store names name text rest manner slash here
