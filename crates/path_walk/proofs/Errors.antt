@@ -1,51 +1,62 @@
 -- A call that replies an error leaves the store as it was.
-use Rattle.std.proofs.Common.{◌≡◌, ℕ, zero, suc, List, Option, None, Some, Result, Ok, Err, refl}
+use Rattle.std.proofs.Common.{◌≡◌, ℕ, ◌%◌, List, slice_set, refl, ap, ◌∙◌}
+use Rattle.wf_core.specs.Limits.{path_names_max, symloop_max, group_count}
 use Rattle.wf_core.specs.declared.errno.Errno.{Errno}
-use Rattle.name_store.specs.declared.operation.Node.{Node}
-use Rattle.name_store.specs.NameTrees.{Listing, dir_at, entry_at}
-use Rattle.path_walk.specs.declared.part.Part.{Part}
-use Rattle.path_walk.specs.declared.part.Part.TheVariants.{Here, Up, Down, TooLong}
+use Rattle.name_store.specs.declared.operation.NameOp.{NameOp}
+use Rattle.name_store.specs.declared.operation.NameAnswer.{NameAnswer}
+use Rattle.name_store.specs.declared.operation.NameAnswer.TheVariants as answer
+use Rattle.name_store.specs.NameTrees.{Tree, nstep}
+use Rattle.name_store.specs.Laws.{LeavesTree}
+use Rattle.name_store.proofs.Refusals.{refused_same}
+use Rattle.file_store.specs.FileGroups.{Group, opening}
+use Rattle.path_walk.specs.declared.step.StoreAnswer.TheVariants.{Names as NamesAnswer}
+use Rattle.path_walk.specs.declared.step.StepAnswer.TheVariants.{Answered}
 use Rattle.path_walk.specs.declared.call.Call.{Call}
-use Rattle.path_walk.specs.declared.call.Call.TheVariants.{Mkdir, Stat}
-use Rattle.path_walk.specs.declared.call.Reply.TheVariants.{Fault}
-use Rattle.path_walk.specs.Store.{Store, names_at}
-use Rattle.path_walk.specs.Paths.{parts_of, front_of, last_of, path_fault}
-use Rattle.path_walk.specs.PathMeaning.{Place}
-use Rattle.path_walk.specs.Posix.{CallOutcome, made_in, made_under, made_at, making, status, leads, outcome_unless, posix}
+use Rattle.path_walk.specs.declared.call.Reply.TheVariants as reply
+use Rattle.path_walk.specs.Store.{Store, backend_at, names_at, group_at, with_names, with_group}
+use Rattle.path_walk.specs.PathMeaning.{root_of, resolve}
+use Rattle.path_walk.specs.Calls.{Plan, at_once, plan_after, unlinked_by, last_step}
+use Rattle.path_walk.specs.Posix.{posix}
+use Rattle.path_walk.proofs.Plans.{Holds, any_end, each_call}
+use Rattle.path_walk.proofs.Leads.{put_back, same_names}
 
--- the outcome is no error, or leaves the store as it was
-abbrev Spares : Store → CallOutcome → Type 0
-Spares store outcome = (error : Errno) → outcome.reply ≡ Fault error → outcome.store ≡ store
+same_group : (store : Store) (backend number : ℕ) → with_group store backend number (group_at store backend number) ≡ store
+same_group store backend number =
+    ap (λ (groups : List Group). slice_set store backend (record (backend_at store backend) { groups = groups })) (put_back (backend_at store backend).groups number (opening number))
+    ∙ put_back store backend _
 
-in_spares : (store : Store) (here : ℕ) (name : List ℕ) (node : Option Node) → Spares store (made_in store here name node)
-in_spares store here name (Some node) = λ error h. refl
-in_spares store here name None = λ error h. cc
+-- where the plan replies an error, the store is as it was
+abbrev Spares : Plan → Type 0
+Spares p = (store : Store) (error : Errno) → (at_once store p).reply ≡ reply.Fault error → (at_once store p).store ≡ store
 
-under_spares : (store : Store) (here : ℕ) (name : List ℕ) (directory : Option Listing) → Spares store (made_under store here name directory)
-under_spares store here name None = λ error h. refl
-under_spares store here name (Some directory) = in_spares store here name (entry_at directory name)
+after_spares : (store : Store) (backend : ℕ) (tree : Tree) (given : NameAnswer) (error : Errno) → (LeavesTree given → tree ≡ names_at store backend) → (at_once (with_names store backend tree) (plan_after backend (Answered (NamesAnswer given)) (unlinked_by (Answered (NamesAnswer given))))).reply ≡ reply.Fault error → (at_once (with_names store backend tree) (plan_after backend (Answered (NamesAnswer given)) (unlinked_by (Answered (NamesAnswer given))))).store ≡ store
+after_spares store backend tree answer.Gone error same e = ap (with_names store backend) (same tt) ∙ same_names store backend
+after_spares store backend tree (answer.Fault given) error same e = ap (with_names store backend) (same tt) ∙ same_names store backend
+after_spares store backend tree answer.Absent error same e = cc
+after_spares store backend tree (answer.Found node) error same e = cc
+after_spares store backend tree (answer.MadeDir id) error same e = cc
+after_spares store backend tree (answer.MadeLink id) error same e = cc
+after_spares store backend tree (answer.Taken node) error same e = cc
+after_spares store backend tree answer.Done error same e = cc
+after_spares store backend tree (answer.RemovedFile file) error same e = cc
+after_spares store backend tree answer.RemovedLink error same e = cc
+after_spares store backend tree answer.Same error same e = cc
+after_spares store backend tree (answer.Over file) error same e = cc
+after_spares store backend tree answer.Moved error same e = cc
+after_spares store backend tree (answer.Names names) error same e = cc
 
-at_spares : (store : Store) (last : Option Part) (names here : ℕ) → Spares store (made_at store last names here)
-at_spares store None names here = λ error h. refl
-at_spares store (Some Here) names here = λ error h. refl
-at_spares store (Some Up) names here = λ error h. refl
-at_spares store (Some TooLong) names here = λ error h. refl
-at_spares store (Some (Down name)) zero here = λ error h. refl
-at_spares store (Some (Down name)) (suc names) here = under_spares store here name (dir_at (names_at store 0) here)
+last_spares : (backend : ℕ) (op : NameOp) → Spares (last_step backend op)
+last_spares backend op store error e =
+    let outcome = nstep (names_at store backend) op in
+    after_spares store backend outcome.tree outcome.answer error (refused_same (names_at store backend) op) e
 
-making_spares : (store : Store) (last : Option Part) (where_to : Result Place Errno) → Spares store (making store last where_to)
-making_spares store last (Ok place) = at_spares store last place.names place.directory
-making_spares store last (Err error) = λ e h. refl
+spares_hold : Holds (λ count p. Spares p) (λ backend. Unit {0})
+spares_hold = record {
+  over = λ count given store error e. refl;
+  size = λ count backend file there store error e. same_group store backend (file % group_count);
+  last = λ count backend op there. last_spares backend op;
+  along = λ count route next each store error e. let end = resolve store path_names_max route.parts route.manner route.slash symloop_max (root_of 0) in each end (any_end end) store error e;
+}
 
-status_spares : (store : Store) (where_to : Result Place Errno) → Spares store (status store where_to)
-status_spares store (Ok place) = λ e h. refl
-status_spares store (Err error) = λ e h. refl
-
-unless_spares : (store : Store) (fault : Option Errno) (outcome : CallOutcome) → Spares store outcome → Spares store (outcome_unless fault store outcome)
-unless_spares store (Some error) outcome spares = λ e h. refl
-unless_spares store None outcome spares = spares
-
-pub errors_change_nothing : (store : Store) (call : Call) (error : Errno) → (posix store call).reply ≡ Fault error → (posix store call).store ≡ store
-errors_change_nothing store (Stat path) = unless_spares store (path_fault path) _ (status_spares store (leads store (parts_of path)))
-errors_change_nothing store (Mkdir path) =
-    unless_spares store (path_fault path) _ (making_spares store (last_of (parts_of path)) (leads store (front_of (parts_of path))))
+pub errors_change_nothing : (store : Store) (c : Call) (error : Errno) → (posix store c).reply ≡ reply.Fault error → (posix store c).store ≡ store
+errors_change_nothing store c error e = each_call (λ count p. Spares p) (λ backend. Unit {0}) spares_hold c store error e

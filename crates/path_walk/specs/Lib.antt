@@ -1,8 +1,14 @@
 pub mod Store
 pub mod Paths
 pub mod PathMeaning
-pub mod Posix
-pub mod Walk
-pub mod Machine
 pub mod Backing
+pub mod Programs
+pub mod Walk
+pub mod Calls
+pub mod Posix
+pub mod Alone
+pub mod Machine
+pub mod Entries
 pub mod Laws
+pub mod EntryLaws
+pub mod PathLaws

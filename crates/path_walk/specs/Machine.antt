@@ -1,41 +1,128 @@
 -- What a machine of one call stands for: the program that is left of the call.
-use Rattle.std.specs.Prelude.{◌≡◌, ℕ, ◌<◌, Option, None, Some}
-use Rattle.path_walk.specs.declared.step.CellId.TheVariants.{Names as NamesCell}
-use Rattle.path_walk.specs.declared.step.StoreOp.TheVariants.{Names as NamesOp}
+use Rattle.std.specs.Prelude.{◌≡◌, ℕ, ◌-◌, ◌<◌, Bool, List, ◌∷◌, Option, None, Some, Result}
+use Rattle.wf_core.specs.Limits.{path_names_max, symloop_max}
+use Rattle.wf_core.specs.declared.errno.Errno.{Errno}
 use Rattle.path_walk.specs.declared.step.StepAnswer.{StepAnswer}
 use Rattle.path_walk.specs.declared.call.Reply.TheVariants.{Done}
-use Rattle.path_walk.specs.declared.trail.Goal.{Goal}
-use Rattle.path_walk.specs.declared.trail.Goal.TheVariants.{Ask, Make}
-use Rattle.path_walk.specs.declared.trail.Stage.{Stage}
-use Rattle.path_walk.specs.declared.trail.Stage.TheVariants.{Start, Walking, Making, Over}
 use Rattle.path_walk.specs.declared.call.Need.{Need}
 use Rattle.path_walk.specs.declared.call.Need.TheVariants.{Step, Done as DoneNeed}
-use Rattle.wf_core.specs.Limits.{path_names_max}
-use Rattle.path_walk.specs.Walk.{Program, finished, asks, way_of, led, walk, asked, making, made_reply, program}
+use Rattle.path_walk.specs.declared.part.Part.{Part}
+use Rattle.path_walk.specs.declared.part.Part.TheVariants.{Up}
+use Rattle.path_walk.specs.declared.call.Call.{Call}
+use Rattle.path_walk.specs.declared.call.Call.TheVariants as call
+use Rattle.path_walk.specs.declared.route.Manner.{Manner}
+use Rattle.path_walk.specs.declared.route.Manner.TheVariants.{Follows, Stays}
+use Rattle.path_walk.specs.declared.route.Route.{Route}
+use Rattle.path_walk.specs.declared.route.End.{End}
+use Rattle.path_walk.specs.declared.goal.Change.TheVariants as change
+use Rattle.path_walk.specs.declared.goal.Goal.{Goal}
+use Rattle.path_walk.specs.declared.goal.Reached.{Reached}
+use Rattle.path_walk.specs.declared.goal.Reached.TheVariants.{Turn as ReachedTurn, Trail as ReachedTrail}
+use Rattle.path_walk.specs.declared.trail.Advance.{Advance}
+use Rattle.path_walk.specs.declared.trail.Advance.TheVariants.{Asks, Ends}
+use Rattle.path_walk.specs.declared.goal.Goal.TheVariants.{Status, Text, Names, Entry, MoveFrom, MoveTo}
+use Rattle.path_walk.specs.declared.trail.Trail.{Trail}
+use Rattle.path_walk.specs.declared.trail.Stage.{Stage}
+use Rattle.path_walk.specs.declared.trail.Stage.TheVariants.{Start, Walking, LastOnNames, LastOnFiles}
+use Rattle.name_store.specs.declared.operation.Node.{Node}
+use Rattle.path_walk.specs.declared.trail.Onward.{Onward}
+use Rattle.path_walk.specs.declared.trail.Onward.TheVariants.{Ends as EndsThere, Goes}
+use Rattle.path_walk.specs.PathMeaning.{Way, Course, ends, goes, root_of, course_to_link}
+use Rattle.path_walk.specs.Programs.{Program, finished, asks}
+use Rattle.path_walk.specs.Walk.{node_in, course_on, program_on, walk}
+use Rattle.path_walk.specs.Calls.{Plan, parent_route, whole_route, program_of, status_plan, text_plan, list_plan, parent_plan, change_plan, move_plan, move_on, plan_after, unlinked_by, reply_to, text_fault}
+use Rattle.path_walk.specs.Posix.{program}
 
--- what follows the walk
-abbrev pub after_walk : Goal → ℕ → ℕ → Program
-after_walk Ask = asked
-after_walk (Make last) = making last
+-- what a call does at the end of its walk
+abbrev pub goal_plan : Goal → Result End Errno → Plan
+goal_plan Status end = status_plan end
+goal_plan Text end = text_plan end
+goal_plan (Names start) end = list_plan start end
+goal_plan (Entry change last slash) end = parent_plan last (change_plan change last slash) end
+goal_plan (MoveFrom last slash new) end = parent_plan last (move_on last slash new) end
+goal_plan (MoveTo from last slash new_last) end = parent_plan new_last (move_plan from last slash new_last) end
+
+abbrev pub goal_program : Goal → Result End Errno → Program
+goal_program goal end = program_of (goal_plan goal end)
+
+-- the walk that a trail is on, from what is still to be walked
+abbrev pub walk_of : Trail → Way → Program
+walk_of trail w = walk trail.names w.rest trail.manner w.slash w.links w.spot (goal_program trail.goal)
+
+abbrev pub way_of : Trail → Way
+way_of trail = record { rest = trail.rest; slash = trail.slash; links = trail.links; spot = trail.spot }
+
+-- the same, with `..` first
+abbrev pub way_up : Trail → Way
+way_up trail = record (way_of trail) { rest = Up ∷ trail.rest }
+
+-- the start of a walk, from the root
+abbrev pub trail_from : List Part → Manner → Bool → Goal → Trail
+trail_from rest manner slash goal = record { rest = rest; manner = manner; slash = slash; names = path_names_max; links = symloop_max; spot = root_of 0; goal = goal }
+
+abbrev pub with_one_name_less : Trail → Trail
+with_one_name_less trail = record trail { names = trail.names - 1 }
+
+-- the path that a call walks first, and the other path of a move
+abbrev pub route_of : Call → Result Route Errno
+route_of (call.Mkdir path) = parent_route path
+route_of (call.Rmdir path) = parent_route path
+route_of (call.Unlink path) = parent_route path
+route_of (call.Symlink text path) = parent_route path
+route_of (call.Rename path new) = parent_route path
+route_of (call.Readlink path) = whole_route Stays path
+route_of (call.Stat path) = whole_route Follows path
+route_of (call.Lstat path) = whole_route Stays path
+route_of (call.List path start) = whole_route Follows path
+
+abbrev pub new_route_of : Call → Option (Result Route Errno)
+new_route_of (call.Rename path new) = Some (parent_route new)
+new_route_of call = None
+
+-- the error of a call before any path of it
+abbrev pub fault_of : Call → Option Errno
+fault_of (call.Symlink text path) = text_fault text
+fault_of call = None
+
+-- what a call does at the end of its first path
+abbrev pub goal_of : Call → Option Part → Bool → Goal
+goal_of (call.Mkdir path) last slash = Entry change.Makedir last slash
+goal_of (call.Rmdir path) last slash = Entry change.Remdir last slash
+goal_of (call.Unlink path) last slash = Entry change.Remfile last slash
+goal_of (call.Symlink text path) last slash = Entry (change.Addlink text) last slash
+goal_of (call.Rename path new) last slash = MoveFrom last slash (parent_route new)
+goal_of (call.Readlink path) last slash = Text
+goal_of (call.Stat path) last slash = Status
+goal_of (call.Lstat path) last slash = Status
+goal_of (call.List path start) last slash = Names start
+
+-- how many walks follow that of a goal
+abbrev pub walks_after : Goal → ℕ
+walks_after (MoveFrom last slash new) = 1
+walks_after goal = 0
+
+-- the course from what was found
+abbrev pub course_of : Trail → Result (Option Node) Errno → Course
+course_of trail found = course_on trail.manner found trail.rest trail.slash trail.links trail.spot
+
+abbrev pub course_along : Trail → List ℕ → Course
+course_along trail text = course_to_link trail.manner text trail.rest trail.slash trail.links trail.spot
 
 -- the machine is not begun and has no answer, or waits for an answer and has one
 abbrev pub Expects : Stage → Option StepAnswer → Type 0
 Expects (Start call) None = Unit {0}
-Expects (Start call) (Some answer) = ⊥
-Expects (Walking trail) None = ⊥
 Expects (Walking trail) (Some answer) = Unit {0}
-Expects Making None = ⊥
-Expects Making (Some answer) = Unit {0}
-Expects Over answer = ⊥
+Expects (LastOnNames backend) (Some answer) = Unit {0}
+Expects LastOnFiles (Some answer) = Unit {0}
+Expects stage answer = ⊥
 
 -- what is left of the call at the answer that the machine waited for; nothing is expected when it is over
 abbrev pub resumed : Stage → Option StepAnswer → Program
 resumed (Start call) answer = program call
-resumed (Walking trail) (Some answer) = led (way_of answer) (λ here. walk trail.rest trail.names here (after_walk trail.goal))
-resumed (Walking trail) None = finished Done
-resumed Making (Some answer) = finished (made_reply answer)
-resumed Making None = finished Done
-resumed Over answer = finished Done
+resumed (Walking trail) (Some answer) = program_on (course_of trail (node_in answer)) (walk_of trail) (goal_program trail.goal)
+resumed (LastOnNames backend) (Some answer) = program_of (plan_after backend answer (unlinked_by answer))
+resumed LastOnFiles (Some answer) = finished (reply_to answer)
+resumed stage answer = finished Done
 
 -- the machine tells what the program does next, and stands for what is left after any answer
 abbrev pub Shows : Need → Program → Stage → Type 0
@@ -45,19 +132,25 @@ Shows (Step cell op) (finished given) stage = ⊥
 Shows (Step cell op) (asks asked_cell asked_op next) stage =
     (cell ≡ asked_cell) × (op ≡ asked_op) × ((answer : StepAnswer) → (next answer ≡ resumed stage (Some answer)) × Expects stage (Some answer))
 
--- each step is on the root's names
-abbrev pub AsksRoot : Need → Type 0
-AsksRoot (DoneNeed reply) = Unit {0}
-AsksRoot (Step (NamesCell backend) (NamesOp op)) = backend ≡ 0
+abbrev pub with_way : Trail → Way → Trail
+with_way trail w = record trail { rest = w.rest; slash = w.slash; links = w.links; spot = w.spot }
 
--- how many steps may still be asked for
-abbrev pub steps_left : Stage → ℕ
-steps_left (Start call) = path_names_max
-steps_left (Walking trail) = trail.names
-steps_left Making = 0
-steps_left Over = 0
+-- the trail has met a course
+abbrev pub Meets : Trail → Course → Onward → Trail → Type 0
+Meets old (ends end) (EndsThere given) new = (given ≡ end) × (new ≡ old)
+Meets old (goes w) Goes new = new ≡ with_way old w
+Meets old course onward new = ⊥
 
--- each step that is asked for leaves fewer than before
-abbrev pub Falls : Need → ℕ → Stage → Type 0
-Falls (DoneNeed reply) before stage = Unit {0}
-Falls (Step cell op) before stage = steps_left stage < before
+abbrev pub IsWalking : Stage → Type 0
+IsWalking (Walking trail) = Unit {0}
+IsWalking stage = ⊥
+
+-- at the end of a goal's walk: the call's last step or its reply, or the walk that follows
+abbrev pub Reaches : Goal → Program → Reached → Type 0
+Reaches goal left (ReachedTurn turn) = Shows turn.need left turn.stage
+Reaches goal left (ReachedTrail trail) = (left ≡ walk_of trail (way_of trail)) × (walks_after trail.goal < walks_after goal)
+
+-- a trail that is followed until it asks for a step, or to its end
+abbrev pub Advances : Trail → Advance → Type 0
+Advances trail (Asks turn) = Shows turn.need (walk_of trail (way_of trail)) turn.stage
+Advances trail (Ends goal end) = (walk_of trail (way_of trail) ≡ goal_program goal end) × (goal ≡ trail.goal)

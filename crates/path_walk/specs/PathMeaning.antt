@@ -1,54 +1,122 @@
--- Where a path leads in a tree that stands still: pathname resolution of POSIX.1-2017, XBD 4.13, by
--- recursion on the components. That only so many names may be taken is this project's own.
-use Rattle.std.specs.Prelude.{ℕ, ◌==◌, zero, suc, if◌then◌else◌, List, [], ◌∷◌, Option, None, Some, Result, Ok, Err}
+-- Where a path leads in a store that stands still: pathname resolution of POSIX.1-2017, XBD 4.13, by recursion on
+-- the components, with links followed and mounts entered. That only so many names may be taken and so many links be
+-- followed is this project's own.
+use Rattle.std.specs.Prelude.{ℕ, ◌==◌, ◌||◌, zero, suc, if◌then◌else◌, Bool, true, false, List, [], ◌∷◌, ◌++◌, Option, None, Some, Result, Ok, Err}
+use Rattle.wf_core.specs.Names.{is_slash}
 use Rattle.wf_core.specs.declared.errno.Errno.{Errno}
-use Rattle.wf_core.specs.declared.errno.Errno.TheVariants.{Enoent, Enotdir, Eloop, Enametoolong, Exdev}
+use Rattle.wf_core.specs.declared.errno.Errno.TheVariants.{Enoent, Enotdir, Eloop, Enametoolong}
 use Rattle.name_store.specs.declared.operation.Node.{Node}
-use Rattle.name_store.specs.declared.operation.Node.TheVariants.{Dir, Link, File, Mount}
-use Rattle.name_store.specs.NameTrees.{Tree, Listing, dir_at, entry_at}
+use Rattle.name_store.specs.declared.operation.Node.TheVariants.{Dir, Link, File as FileNode, Mount}
+use Rattle.name_store.specs.NameTrees.{Listing, dir_at, entry_at}
 use Rattle.path_walk.specs.declared.part.Part.{Part}
 use Rattle.path_walk.specs.declared.part.Part.TheVariants.{Here, Up, Down, TooLong}
+use Rattle.path_walk.specs.declared.route.Manner.{Manner}
+use Rattle.path_walk.specs.declared.route.Manner.TheVariants.{OnWay, Stays}
+use Rattle.path_walk.specs.declared.route.Spot.{Spot}
+use Rattle.path_walk.specs.declared.route.End.{End}
+use Rattle.path_walk.specs.declared.route.End.TheVariants.{Directory, File, LinkText}
+use Rattle.path_walk.specs.Store.{Store, names_at}
+use Rattle.path_walk.specs.Paths.{parts_of, slash_of}
 
--- the directory that a path leads to, and how many names it may still take
-pub record Place : Type 0 where
-  pub names : ℕ
-  pub directory : ℕ
+-- the root directory of a backend
+abbrev pub root_of : ℕ → Spot
+root_of backend = record { backend = backend; directory = 0 }
 
--- the directory that a node is; a name that is absent is ENOENT, and a file on the way ENOTDIR (XSH stat() and
--- mkdir(), ERRORS). The store of the calls so far has directories alone: a link, which is not followed, is ELOOP and
--- a mount, which is not entered, EXDEV (own).
-abbrev pub into : Option Node → Result ℕ Errno
-into None = Err Enoent
-into (Some (Dir id)) = Ok id
-into (Some (File file)) = Err Enotdir
-into (Some (Link id text)) = Err Eloop
-into (Some (Mount backend)) = Err Exdev
+-- a directory of the same backend
+abbrev pub spot_beside : Spot → ℕ → Spot
+spot_beside here directory = record { backend = here.backend; directory = directory }
+
+-- where a text starts: at the root where it begins with a slash, else where it stands
+abbrev pub start_of : List ℕ → Spot → Spot
+start_of [] here = here
+start_of (byte ∷ text) here = if is_slash byte then root_of 0 else here
+
+-- what is still to be walked, and from where: the parts, the slash flag, and how many links may still be followed
+pub record Way : Type 0 where
+  pub rest : List Part
+  pub slash : Bool
+  pub links : ℕ
+  pub spot : Spot
+
+abbrev pub way : List Part → Bool → ℕ → Spot → Way
+way rest slash links spot = record { rest = rest; slash = slash; links = links; spot = spot }
+
+-- a link's text stands before the rest. As the last of a path it sets the slash flag too
+abbrev pub way_through : List ℕ → List Part → Bool → ℕ → Spot → Way
+way_through text [] slash links here = way (parts_of text) (slash || slash_of text) links (start_of text here)
+way_through text (part ∷ rest) slash links here = way (parts_of text ++ part ∷ rest) slash links (start_of text here)
+
+-- what stands under a name ends the walk, or has it go on
+pub data Course : Type 0 where
+  ends : Result End Errno → Course
+  goes : Way → Course
+
+abbrev pub course_through : ℕ → List ℕ → List Part → Bool → Spot → Course
+course_through zero text rest slash here = ends (Err Eloop)
+course_through (suc links) text rest slash here = goes (way_through text rest slash links here)
+
+-- a last file: with the slash flag it would have to be a directory
+abbrev pub course_at_file : Manner → Bool → Spot → ℕ → Course
+course_at_file OnWay slash here file = ends (Err Enotdir)
+course_at_file manner slash here file = ends (if slash then Err Enotdir else Ok (File here.backend file))
+
+-- a last link: where a walk does not follow it, the slash flag has it followed
+abbrev pub is_followed : Manner → Bool → Bool
+is_followed Stays slash = slash
+is_followed manner slash = true
+
+abbrev pub course_at_link : Bool → List ℕ → Bool → ℕ → Spot → Course
+course_at_link true text slash links here = course_through links text [] slash here
+course_at_link false text slash links here = ends (Ok (LinkText text))
+
+-- to a link, by its text
+abbrev pub course_to_link : Manner → List ℕ → List Part → Bool → ℕ → Spot → Course
+course_to_link manner text [] slash links here = course_at_link (is_followed manner slash) text slash links here
+course_to_link manner text (part ∷ rest) slash links here = course_through links text (part ∷ rest) slash here
+
+-- from what stands under a name: the name is the last where no parts are left after it
+abbrev pub course : Manner → Option Node → List Part → Bool → ℕ → Spot → Course
+course manner None rest slash links here = ends (Err Enoent)
+course manner (Some (Dir id)) rest slash links here = goes (way rest slash links (spot_beside here id))
+course manner (Some (Mount backend)) rest slash links here = goes (way rest slash links (root_of backend))
+course manner (Some (FileNode file)) [] slash links here = course_at_file manner slash here file
+course manner (Some (FileNode file)) (part ∷ rest) slash links here = ends (Err Enotdir)
+course manner (Some (Link id text)) rest slash links here = course_to_link manner text rest slash links here
+
+abbrev pub end_of_course : Course → (Way → Result End Errno) → Result End Errno
+end_of_course (ends end) next = end
+end_of_course (goes w) next = next w
+
+-- on from what was found, where it was
+abbrev pub on_found : {A : Type 0} → Result A Errno → (A → Result End Errno) → Result End Errno
+on_found (Ok x) next = next x
+on_found (Err error) next = Err error
 
 -- the entry of that name in a directory, where the directory is there
-abbrev pub below : Option Listing → List ℕ → Result ℕ Errno
-below None name = Err Enoent
-below (Some directory) name = into (entry_at directory name)
+abbrev pub entry_in : Option Listing → List ℕ → Result (Option Node) Errno
+entry_in None name = Err Enoent
+entry_in (Some directory) name = Ok (entry_at directory name)
 
 -- the directory above another, where that is there
-abbrev pub above : Option Listing → Result ℕ Errno
-above None = Err Enoent
-above (Some directory) = Ok directory.parent
+abbrev pub parent_in : Option Listing → Spot → Result Spot Errno
+parent_in None here = Err Enoent
+parent_in (Some directory) here = Ok (spot_beside here directory.parent)
 
--- `..` in the root stays there, as XBD 4.13 allows
-abbrev pub up_from : Tree → ℕ → Result ℕ Errno
-up_from tree here = if here == 0 then Ok here else above (dir_at tree here)
+-- `..` in a backend's root is the root, since mounts stand there alone; in the root it stays, as XBD 4.13 allows
+abbrev pub parent_from : Store → Spot → Result Spot Errno
+parent_from store here =
+    if here.directory == 0 then Ok (root_of 0)
+    else parent_in (dir_at (names_at store here.backend) here.directory) here
 
--- on from the directory that was reached, where one was
-abbrev pub along : Result ℕ Errno → (ℕ → Result Place Errno) → Result Place Errno
-along (Err error) next = Err error
-along (Ok here) next = next here
-
--- where the parts lead from directory `here`, with so many names that may still be taken
-abbrev pub resolve : Tree → List Part → ℕ → ℕ → Result Place Errno
-resolve tree [] names here = Ok (record { names = names; directory = here })
-resolve tree (Here ∷ rest) names here = resolve tree rest names here
-resolve tree (Up ∷ rest) zero here = Err Enametoolong
-resolve tree (Up ∷ rest) (suc names) here = along (up_from tree here) (λ there. resolve tree rest names there)
-resolve tree (TooLong ∷ rest) names here = Err Enametoolong
-resolve tree (Down name ∷ rest) zero here = Err Enametoolong
-resolve tree (Down name ∷ rest) (suc names) here = along (below (dir_at tree here) name) (λ there. resolve tree rest names there)
+-- where the parts lead from a directory, with so many names that may still be taken and so many links
+abbrev pub resolve : Store → ℕ → List Part → Manner → Bool → ℕ → Spot → Result End Errno
+resolve store names [] manner slash links here = Ok (Directory names here)
+resolve store names (Here ∷ rest) manner slash links here = resolve store names rest manner slash links here
+resolve store names (TooLong ∷ rest) manner slash links here = Err Enametoolong
+resolve store zero (Up ∷ rest) manner slash links here = Err Enametoolong
+resolve store (suc names) (Up ∷ rest) manner slash links here =
+    on_found (parent_from store here) (λ there. resolve store names rest manner slash links there)
+resolve store zero (Down name ∷ rest) manner slash links here = Err Enametoolong
+resolve store (suc names) (Down name ∷ rest) manner slash links here =
+    on_found (entry_in (dir_at (names_at store here.backend) here.directory) name) (λ node.
+    end_of_course (course manner node rest slash links here) (λ w. resolve store names w.rest manner w.slash w.links w.spot))

@@ -1,6 +1,6 @@
 -- The components of a path, after POSIX.1-2017, XBD 4.13. That a path without a slash at its front starts at
 -- the root too, and the limits, are this project's own.
-use Rattle.std.specs.Prelude.{ℕ, ◌==◌, ◌-◌, if◌then◌else◌, not, nat_lt, List, length, map, filter, take, Option, None, Some, slice_get}
+use Rattle.std.specs.Prelude.{ℕ, ◌==◌, ◌-◌, ◌&&◌, Bool, if◌then◌else◌, not, nat_lt, List, length, map, filter, take, Option, None, Some, slice_get, slice_index_or}
 use Rattle.std.specs.List.{slice_split}
 use Rattle.wf_core.specs.Limits.{name_max, path_max}
 use Rattle.wf_core.specs.Names.{is_slash, is_dot, is_dot_dot}
@@ -9,8 +9,7 @@ use Rattle.wf_core.specs.declared.errno.Errno.TheVariants.{Enoent, Enametoolong}
 use Rattle.path_walk.specs.declared.part.Part.{Part}
 use Rattle.path_walk.specs.declared.part.Part.TheVariants.{Here, Up, Down, TooLong}
 
--- what stands between slashes; several slashes count as one (XBD 4.13). Slashes at the end ask for a directory,
--- which all that is named here is, so they count for nothing
+-- what stands between slashes; several slashes count as one (XBD 4.13)
 abbrev pub components : List ℕ → List (List ℕ)
 components path = filter (λ piece. not (length piece == 0)) (slice_split is_slash path)
 
@@ -39,3 +38,10 @@ path_fault path =
     if length path == 0 then Some Enoent
     else if nat_lt (path_max - 1) (length path) then Some Enametoolong
     else None
+
+abbrev pub ends_in_slash : List ℕ → Bool
+ends_in_slash path = is_slash (slice_index_or path (length path - 1) 0)
+
+-- the slash flag: slashes at the end of a path that has a component ask for a directory (XBD 4.13)
+abbrev pub slash_of : List ℕ → Bool
+slash_of path = not (length (components path) == 0) && ends_in_slash path

@@ -1,13 +1,16 @@
 ghost use Rattle.std.specs.Prelude.{◌≡◌, ◌≤◌, ◌<◌, ◌∷◌, ◌++◌, [], ℕ, List, length, Option, IfOk, MatchResult};
-ghost use Rattle.wf_core.specs.Limits.{path_names_max};
+ghost use Rattle.wf_core.specs.Limits.{call_steps_max};
 ghost use Rattle.path_walk.specs.Store.{Store};
-ghost use Rattle.path_walk.specs.Walk.{Step, step_of, Walk, Begins, program};
-ghost use Rattle.path_walk.specs.Backing.{IsCellOf, IsAnswerOf, StepsAlone, CallsAlone};
+ghost use Rattle.path_walk.specs.Backing.{IsCellOf, IsAnswerOf};
+ghost use Rattle.path_walk.specs.Programs.{Step, step_of, Begins};
+ghost use Rattle.path_walk.specs.Posix.{Walk, program};
+ghost use Rattle.path_walk.specs.Alone.{StepsAlone, CallsAlone};
 
 use crate::call::{Call, Need, Reply};
 use crate::machine::CallMachine;
 use crate::step::{CellId, StepAnswer, StoreOp};
 use std::alloc::{AllocError, Global};
+use wf_core::CALL_STEPS_MAX;
 
 /// The backends of a store, as one call meets them.
 pub trait Backends {
@@ -23,7 +26,7 @@ pub trait Backends {
     /// Takes one step on a cell, or finds no memory.
     fn step(&mut self, cell: CellId, op: StoreOp) -> Result<StepAnswer, AllocError>
         requires { IsCellOf (backends self.old) cell op }
-        ensures form { IfOk result (IsAnswerOf op) }
+        ensures form { IfOk result (IsAnswerOf (backends self.old) op) }
         ensures same { backends self.new ≡ backends self.old }
         ensures ran { ran self.old (step_of cell op result ∷ []) self.new }
         ensures alone { StepsAlone (store self.old) cell op result (store self.new) };
@@ -35,27 +38,33 @@ pub trait Backends {
     ghost ran_on: { (a b c : Self) (s t : List Step) → ran a s b → ran b t c → ran a (s ++ t) c };
 }
 
-/// Performs a call: takes its steps on the backends, at most `PATH_NAMES_MAX`, and gives its reply.
+/// Performs a call: takes its steps on the backends, at most `CALL_STEPS_MAX`, and gives its reply.
 pub fn perform<B: Backends>(
     alloc: Global,
     call: Call,
     backends: &mut B,
 ) -> Result<Reply, AllocError>
     // The steps that were taken in this call, in order, are the call's, and the reply is theirs.
-    ensures walk { (steps : List Step) × B.ran backends.old steps backends.new × (length steps ≤ path_names_max)
+    ensures walk { (steps : List Step) × B.ran backends.old steps backends.new
+        × (length steps ≤ call_steps_max)
         × MatchResult result (λ reply. Walk call steps reply) (λ _. Begins (program call) steps) }
 
     // Where nobody else changes the store, the reply and the store are those of the call at once.
-    ensures alone { IfOk result (λ reply. CallsAlone (B.store backends.old) call reply (B.store backends.new)) }
+    ensures alone { IfOk result
+        (λ reply. CallsAlone (B.store backends.old) call reply (B.store backends.new)) }
 
     ensures same { B.backends backends.new ≡ B.backends backends.old }
 {
     let mut machine = CallMachine::new(alloc, call);
     let mut answer = None;
-    loop {
+    for _ in 0..CALL_STEPS_MAX {
         match machine.next(answer)? {
             Need::Step(cell, op) => answer = Some(backends.step(cell, op)?),
             Need::Done(reply) => return Ok(reply),
         }
+    }
+    match machine.next(answer)? {
+        Need::Done(reply) => Ok(reply),
+        Need::Step(..) => unreachable!(),
     }
 }

@@ -1,20 +1,23 @@
-ghost use Rattle.std.specs.Prelude.{◌≡◌, MatchResult, IfOk, OnErr, Ok, Err};
-ghost use Rattle.path_walk.specs.Paths.{path_fault};
-ghost use Rattle.wf_core.specs.Limits.{path_names_max};
-ghost use Rattle.path_walk.specs.Walk.{program, way_of, made_reply};
-ghost use Rattle.path_walk.specs.Machine.{AsksRoot, Expects, Falls, Shows, resumed, steps_left};
+ghost use Rattle.std.specs.Prelude.{◌≡◌, IfOk, OnErr, None, Some};
+ghost use Rattle.path_walk.specs.Posix.{program};
+ghost use Rattle.path_walk.specs.Walk.{node_in};
+ghost use Rattle.path_walk.specs.Calls.{plan_after, program_of, reply_to, reply_to_files, reply_to_names, unlinked_by};
+ghost use Rattle.path_walk.specs.Machine.{Expects, IsWalking, Shows, fault_of, goal_of, new_route_of, resumed, route_of};
 ghost use Rattle.path_walk.specs.declared.trail.Stage.{Stage};
 ghost use Rattle.path_walk.specs.declared.trail.Stage.TheVariants.{Start};
 
 use crate::call::{Call, Need, Reply};
-use crate::part::Parts;
+use crate::goal::{Change, Goal, step_on_file, text_fault};
+use crate::part::Part;
+use crate::route::{Manner, Route};
 use crate::step::{StepAnswer, StoreAnswer};
-use crate::trail::{Goal, Stage, Trail, Turn, over};
+use crate::trail::{Onward, Stage, Trail, Turn, fault, over};
+use file_store::{FileAnswer, FileOp};
 use name_store::{NameAnswer, Node};
 use std::alloc::{AllocError, Global};
 use std::marker::Model;
 use std::mem;
-use wf_core::{DirId, Errno, PATH_MAX, PATH_NAMES_MAX, PathText};
+use wf_core::{Errno, FileId};
 
 /// One call, step by step: it tells which step it needs, and goes on from the answer.
 #[derive(Drop)]
@@ -45,124 +48,209 @@ impl CallMachine {
     pub fn next(&mut self, answer: Option<StepAnswer>) -> Result<Need, AllocError>
         requires { Expects self.old answer }
         ensures ok { IfOk result (λ need. Shows need (resumed self.old answer) self.new) }
-        ensures falls { IfOk result (λ need. Falls need (steps_left self.old) self.new) }
-        ensures root { IfOk result AsksRoot }
         ensures err { OnErr result (self.new ≡ self.old) }
     {
         let turn = match answer {
             None => self.begin()?,
-            Some(answer) => self.resume(answer),
+            Some(answer) => self.resume(answer)?,
         };
         self.stage = turn.stage;
         Ok(turn.need)
     }
 
-    fn begin(&self) -> Result<Turn, AllocError>
-        requires { Expects self.now None }
-        ensures shows { IfOk result (λ turn. Shows turn.need (resumed self.now None) turn.stage) }
-        ensures falls { IfOk result (λ turn. Falls turn.need (steps_left self.now) turn.stage) }
-        ensures root { IfOk result (λ turn. AsksRoot turn.need) }
+    fn begin(&mut self) -> Result<Turn, AllocError>
+        requires { Expects self.old None }
+        ensures ok { IfOk result (λ turn. Shows turn.need (resumed self.old None) turn.stage) }
+        ensures err { OnErr result (self.new ≡ self.old) }
+    {
+        let Stage::Start(call) = &self.stage else {
+            unreachable!();
+        };
+        let route = route_of(self.alloc, call)?;
+        let new = new_route_of(self.alloc, call)?;
+        match mem::replace(&mut self.stage, Stage::Over) {
+            Stage::Start(call) => Ok(begin(call, route, new)),
+            _ => unreachable!(),
+        }
+    }
+
+    fn resume(&mut self, answer: StepAnswer) -> Result<Turn, AllocError>
+        requires { Expects self.old (Some answer) }
+        ensures ok { IfOk result
+            (λ turn. Shows turn.need (resumed self.old (Some answer)) turn.stage) }
+        ensures err { OnErr result (self.new ≡ self.old) }
     {
         match &self.stage {
-            Stage::Start(Call::Stat(path)) => begin_stat(self.alloc, path),
-            Stage::Start(Call::Mkdir(path)) => begin_mkdir(self.alloc, path),
+            Stage::Walking(_) => self.walk_on(answer),
+            Stage::LastOnNames(backend) => Ok(after_names(*backend, answer)),
+            Stage::LastOnFiles => Ok(over(reply_to(answer))),
             _ => unreachable!(),
         }
     }
 
-    fn resume(&mut self, answer: StepAnswer) -> Turn
-        requires { Expects self.old (Some answer) }
-        ensures shows { Shows result.need (resumed self.old (Some answer)) result.stage }
-        ensures falls { Falls result.need (steps_left self.old) result.stage }
-        ensures root { AsksRoot result.need }
+    fn walk_on(&mut self, answer: StepAnswer) -> Result<Turn, AllocError>
+        requires { IsWalking self.old }
+        ensures ok { IfOk result
+            (λ turn. Shows turn.need (resumed self.old (Some answer)) turn.stage) }
+        ensures err { OnErr result (self.new ≡ self.old) }
     {
-        match mem::replace(&mut self.stage, Stage::Over) {
-            Stage::Walking(trail) => match way(&answer) {
-                Ok(here) => trail.proceed(here),
-                Err(errno) => over(Reply::Fault(errno)),
-            },
-            Stage::Making => over(made(answer)),
+        let mut trail = match mem::replace(&mut self.stage, Stage::Over) {
+            Stage::Walking(trail) => trail,
             _ => unreachable!(),
+        };
+        match trail.meet(self.alloc, node_in(answer)) {
+            Ok(Onward::Goes) => Ok(trail.proceed()),
+            Ok(Onward::Ends(end)) => Ok(trail.finish(end)),
+            Err(error) => {
+                self.stage = Stage::Walking(trail);
+                Err(error)
+            }
         }
     }
 }
 
-fn fault_of(path: &PathText) -> Option<Errno>
-    ensures { result ≡ path_fault path.now }
+/// The path that a call walks first.
+fn route_of(alloc: Global, call: &Call) -> Result<Result<Route, Errno>, AllocError>
+    ensures { IfOk result (λ route. route ≡ route_of call.now) }
 {
-    let length = path.as_bytes().len();
-    if length == 0 {
-        return Some(Errno::Enoent);
+    match call {
+        Call::Mkdir(path)
+        | Call::Rmdir(path)
+        | Call::Unlink(path)
+        | Call::Symlink(_, path)
+        | Call::Rename(path, _) => Route::parent(alloc, path),
+        Call::Readlink(path) | Call::Lstat(path) => Route::whole(alloc, Manner::Stays, path),
+        Call::Stat(path) | Call::List(path, _) => Route::whole(alloc, Manner::Follows, path),
     }
-    if length >= PATH_MAX {
-        return Some(Errno::Enametoolong);
-    }
-    None
 }
 
-fn begin_stat(alloc: Global, path: &PathText) -> Result<Turn, AllocError>
-    ensures shows { IfOk result (λ turn. Shows turn.need (program (Call.Stat path.now)) turn.stage) }
-    ensures falls { IfOk result (λ turn. Falls turn.need path_names_max turn.stage) }
-    ensures root { IfOk result (λ turn. AsksRoot turn.need) }
+/// The other path of a move.
+fn new_route_of(alloc: Global, call: &Call) -> Result<Option<Result<Route, Errno>>, AllocError>
+    ensures { IfOk result (λ route. route ≡ new_route_of call.now) }
 {
-    if let Some(errno) = fault_of(path) {
-        return Ok(over(Reply::Fault(errno)));
+    match call {
+        Call::Rename(_, new) => Ok(Some(Route::parent(alloc, new)?)),
+        _ => Ok(None),
     }
-    let trail = Trail {
-        names: PATH_NAMES_MAX,
-        rest: Parts::read(alloc, path)?,
-        goal: Goal::Ask,
-    };
-    Ok(trail.proceed(DirId::ROOT))
 }
 
-fn begin_mkdir(alloc: Global, path: &PathText) -> Result<Turn, AllocError>
-    ensures shows { IfOk result (λ turn. Shows turn.need (program (Call.Mkdir path.now)) turn.stage) }
-    ensures falls { IfOk result (λ turn. Falls turn.need path_names_max turn.stage) }
-    ensures root { IfOk result (λ turn. AsksRoot turn.need) }
+/// The error of a call before any path of it.
+fn fault_of(call: &Call) -> Option<Errno>
+    ensures { result ≡ fault_of call.now }
 {
-    if let Some(errno) = fault_of(path) {
-        return Ok(over(Reply::Fault(errno)));
+    match call {
+        Call::Symlink(text, _) => text_fault(text),
+        _ => None,
     }
-    let mut rest = Parts::read(alloc, path)?;
-    let last = rest.take_last();
-    let trail = Trail {
-        names: PATH_NAMES_MAX,
-        rest,
-        goal: Goal::Make(last),
-    };
-    Ok(trail.proceed(DirId::ROOT))
 }
 
-/// Where the answer to a look-up leads. A file is no directory, and a link or a mount is not gone through.
-fn way(answer: &StepAnswer) -> Result<DirId, Errno>
-    ensures { result ≡ way_of answer.now }
+/// What a call does at the end of its first path.
+fn goal_of(call: Call, last: Option<Part>, slash: bool, new: Option<Result<Route, Errno>>) -> Goal
+    requires { new ≡ new_route_of call }
+    ensures { result ≡ goal_of call last slash }
+{
+    match call {
+        Call::Mkdir(_) => Goal::Entry(Change::Makedir, last, slash),
+        Call::Rmdir(_) => Goal::Entry(Change::Remdir, last, slash),
+        Call::Unlink(_) => Goal::Entry(Change::Remfile, last, slash),
+        Call::Symlink(text, _) => Goal::Entry(Change::Addlink(text), last, slash),
+        Call::Rename(_, _) => match new {
+            Some(new) => Goal::MoveFrom(last, slash, new),
+            None => unreachable!(),
+        },
+        Call::Readlink(_) => Goal::Text,
+        Call::Stat(_) | Call::Lstat(_) => Goal::Status,
+        Call::List(_, start) => Goal::Names(start),
+    }
+}
+
+/// Begins a call along its routes.
+fn begin(call: Call, route: Result<Route, Errno>, new: Option<Result<Route, Errno>>) -> Turn
+    requires first { route ≡ route_of call }
+    requires other { new ≡ new_route_of call }
+    ensures { Shows result.need (program call) result.stage }
+{
+    if let Some(errno) = fault_of(&call) {
+        return fault(errno);
+    }
+    match route {
+        Err(errno) => fault(errno),
+        Ok(
+            Route {
+                parts,
+                last,
+                manner,
+                slash,
+            },
+        ) => Trail::new(parts, manner, slash, goal_of(call, last, slash, new)).proceed(),
+    }
+}
+
+/// What stands under a name, by the answer to a look-up or to a question for the parent.
+fn node_in(answer: StepAnswer) -> Result<Option<Node>, Errno>
+    ensures { result ≡ node_in answer }
 {
     match answer {
-        StepAnswer::Answered(StoreAnswer::Names(answer)) => match answer {
-            NameAnswer::Found(Node::Dir(id)) => Ok(*id),
-            NameAnswer::Found(Node::File(_)) => Err(Errno::Enotdir),
-            NameAnswer::Found(Node::Link(..)) => Err(Errno::Eloop),
-            NameAnswer::Found(Node::Mount(_)) => Err(Errno::Exdev),
-            NameAnswer::Fault(errno) => Err(*errno),
-            _ => Err(Errno::Enoent),
-        },
+        StepAnswer::Answered(StoreAnswer::Names(NameAnswer::Found(node))) => Ok(Some(node)),
+        StepAnswer::Answered(StoreAnswer::Names(NameAnswer::Absent)) => Ok(None),
+        StepAnswer::Answered(_) => Err(Errno::Enoent),
         StepAnswer::Cancelled => Err(Errno::Ecanceled),
         StepAnswer::Closed => Err(Errno::Enxio),
     }
 }
 
-/// What the answer to a `makedir` replies.
-fn made(answer: StepAnswer) -> Reply
-    ensures { result ≡ made_reply answer }
+/// The file that a step on names has left without an entry.
+fn unlinked_by(answer: &StepAnswer) -> Option<FileId>
+    ensures { result ≡ unlinked_by answer.now }
 {
     match answer {
-        StepAnswer::Answered(StoreAnswer::Names(answer)) => match answer {
-            NameAnswer::MadeDir(_) => Reply::Done,
-            NameAnswer::Fault(errno) => Reply::Fault(errno),
-            NameAnswer::Found(_) => Reply::Fault(Errno::Eexist),
-            _ => Reply::Fault(Errno::Enoent),
-        },
+        StepAnswer::Answered(
+            StoreAnswer::Names(NameAnswer::RemovedFile(file) | NameAnswer::Over(file)),
+        ) => Some(*file),
+        _ => None,
+    }
+}
+
+/// What follows the last step on the names of a backend.
+fn after_names(backend: u32, answer: StepAnswer) -> Turn
+    ensures { Shows result.need (program_of (plan_after backend answer (unlinked_by answer)))
+        result.stage }
+{
+    match unlinked_by(&answer) {
+        Some(file) => step_on_file(backend, file.number(), FileOp::Unlinked(file)),
+        None => over(reply_to(answer)),
+    }
+}
+
+fn reply_to_names(answer: NameAnswer) -> Reply
+    ensures { result ≡ reply_to_names answer }
+{
+    match answer {
+        NameAnswer::Names(names) => Reply::Names(names),
+        NameAnswer::Fault(errno) => Reply::Fault(errno),
+        NameAnswer::Gone => Reply::Fault(Errno::Enoent),
+        _ => Reply::Done,
+    }
+}
+
+fn reply_to_files(answer: FileAnswer) -> Reply
+    ensures { result ≡ reply_to_files answer }
+{
+    match answer {
+        FileAnswer::Size(size) => Reply::File(size),
+        FileAnswer::Fault(errno) => Reply::Fault(errno),
+        FileAnswer::Gone => Reply::Fault(Errno::Enoent),
+        _ => Reply::Done,
+    }
+}
+
+/// What a call replies to the answer to its last step.
+fn reply_to(answer: StepAnswer) -> Reply
+    ensures { result ≡ reply_to answer }
+{
+    match answer {
+        StepAnswer::Answered(StoreAnswer::Names(answer)) => reply_to_names(answer),
+        StepAnswer::Answered(StoreAnswer::Files(answer)) => reply_to_files(answer),
         StepAnswer::Cancelled => Reply::Fault(Errno::Ecanceled),
         StepAnswer::Closed => Reply::Fault(Errno::Enxio),
     }

@@ -1,4 +1,4 @@
-ghost use Rattle.std.specs.Prelude.{◌≡◌, ◌≢◌, [], ◌∷◌, true, List, length, map, IfOk, MatchOption};
+ghost use Rattle.std.specs.Prelude.{◌≡◌, ◌≢◌, ◌==◌, [], ◌∷◌, ◌++◌, true, List, length, map, IfOk, OnOk, OnErr, MatchOption};
 ghost use Rattle.std.specs.List.{list_all};
 ghost use Rattle.wf_core.specs.Names.{is_name_byte};
 ghost use Rattle.path_walk.specs.declared.part.Part.{Part};
@@ -72,6 +72,22 @@ impl Parts {
         ensures { MatchOption result (self.old ≡ []) (λ part. self.old ≡ part ∷ self.new) }
     {
         self.parts.pop_front()
+    }
+
+    pub(crate) fn is_empty(&self) -> bool
+        ensures { result ≡ (length self.now == 0) }
+    {
+        self.parts.is_empty()
+    }
+
+    /// Puts parts in front of these. Want of memory changes nothing.
+    pub(crate) fn put_front(&mut self, mut front: Parts) -> Result<(), AllocError>
+        ensures ok { OnOk result (self.new ≡ front ++ self.old) }
+        ensures err { OnErr result (self.new ≡ self.old) }
+    {
+        front.parts.append(&mut self.parts)?;
+        self.parts = front.parts;
+        Ok(())
     }
 
     pub(crate) fn take_last(&mut self) -> Option<Part>

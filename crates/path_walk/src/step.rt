@@ -1,3 +1,4 @@
+use file_store::{FileAnswer, FileOp};
 use name_store::{NameAnswer, NameOp};
 use wf_core::BackendId;
 
@@ -6,22 +7,26 @@ use wf_core::BackendId;
 pub enum CellId {
     /// The names of that backend.
     Names(BackendId),
+    /// The files of that backend in that group, of `GROUP_COUNT`.
+    Files(BackendId, u32),
 }
 
 /// An operation on a cell.
 #[derive(Debug, Drop)]
 pub enum StoreOp {
     Names(NameOp),
+    Files(FileOp),
 }
 
 /// What an operation on a cell answers.
-#[derive(Debug, PartialEq, Eq, Drop)]
+#[derive(Debug, Drop)]
 pub enum StoreAnswer {
     Names(NameAnswer),
+    Files(FileAnswer),
 }
 
 /// What a call is told of a step.
-#[derive(Debug, PartialEq, Eq, Drop)]
+#[derive(Debug, Drop)]
 pub enum StepAnswer {
     /// The step was taken, and answered so.
     Answered(StoreAnswer),

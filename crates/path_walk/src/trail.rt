@@ -1,27 +1,27 @@
-ghost use Rattle.std.specs.Prelude.{◌≡◌, ◌≤◌, ℕ};
-ghost use Rattle.path_walk.specs.Walk.{walk, taken, goes, finished};
-ghost use Rattle.path_walk.specs.Machine.{AsksRoot, Shows, Falls, after_walk};
+ghost use Rattle.std.specs.Prelude.{◌≡◌, ◌==◌, ◌<◌, false, Ok, Some, IfOk, OnErr};
+ghost use Rattle.path_walk.specs.PathMeaning.{Course};
+ghost use Rattle.path_walk.specs.Programs.{finished};
+ghost use Rattle.path_walk.specs.Machine.{Advances, Meets, Shows, course_along, course_of, goal_program, trail_from, walk_of, way_of, way_up, with_one_name_less};
 
 use crate::call::{Call, Need, Reply};
+use crate::goal::{Goal, Reached};
 use crate::part::{Part, Parts};
+use crate::route::{End, Manner, Spot, has_slash};
 use crate::step::{CellId, StoreOp};
-use name_store::NameOp;
-use wf_core::{BackendId, DirId, Errno};
+use name_store::{NameOp, Node};
+use std::alloc::{AllocError, Global};
+use wf_core::{Errno, PATH_NAMES_MAX, PathText, SYMLOOP_MAX};
 
-/// What a call does where its walk has led to.
-#[derive(Debug, Drop)]
-pub(crate) enum Goal {
-    /// It asks what is there.
-    Ask,
-    /// It makes a directory there under the last component, which is none for the root.
-    Make(Option<Part>),
-}
-
-/// A walk that is under way: how many names it may still take, what is left of the path, and its goal.
+/// A walk that is under way: what is left of its path, from where, and its goal.
 #[derive(Debug, Drop)]
 pub(crate) struct Trail {
-    pub(crate) names: u32,
     pub(crate) rest: Parts,
+    pub(crate) manner: Manner,
+    pub(crate) slash: bool,
+    /// How many names and how many links the path may still take.
+    pub(crate) names: u32,
+    pub(crate) links: u32,
+    pub(crate) spot: Spot,
     pub(crate) goal: Goal,
 }
 
@@ -31,8 +31,10 @@ pub(crate) enum Stage {
     Start(Call),
     /// It waits for the answer that leads its walk on.
     Walking(Trail),
-    /// It waits for the answer to its last step.
-    Making,
+    /// It waits for the answer to its last step on the names of that backend.
+    LastOnNames(u32),
+    /// It waits for the answer to its last step on files.
+    LastOnFiles,
     Over,
 }
 
@@ -43,10 +45,23 @@ pub(crate) struct Turn {
     pub(crate) need: Need,
 }
 
+/// A trail that was followed as far as it goes without an answer.
+#[derive(Drop)]
+pub(crate) enum Advance {
+    Asks(Turn),
+    Ends(Goal, Result<End, Errno>),
+}
+
+/// What stands under a name ends the walk, or has it go on.
+#[derive(Drop)]
+pub(crate) enum Onward {
+    Ends(Result<End, Errno>),
+    Goes,
+}
+
 /// The end of a call.
 pub(crate) fn over(reply: Reply) -> Turn
-    ensures shows { Shows result.need (finished reply) result.stage }
-    ensures root { AsksRoot result.need }
+    ensures { Shows result.need (finished reply) result.stage }
 {
     Turn {
         stage: Stage::Over,
@@ -54,68 +69,169 @@ pub(crate) fn over(reply: Reply) -> Turn
     }
 }
 
-fn fault(errno: Errno) -> Turn
-    ensures shows { Shows result.need (finished (Reply.Fault errno)) result.stage }
-    ensures root { AsksRoot result.need }
+pub(crate) fn fault(errno: Errno) -> Turn
+    ensures { Shows result.need (finished (Reply.Fault errno)) result.stage }
 {
     over(Reply::Fault(errno))
 }
 
-fn step(stage: Stage, op: NameOp) -> Turn
-    ensures { (result.stage ≡ stage) × (result.need ≡ Need.Step (CellId.Names 0) (StoreOp.Names op)) }
+pub(crate) fn step(stage: Stage, cell: CellId, op: StoreOp) -> Turn
+    ensures { (result.stage ≡ stage) × (result.need ≡ Need.Step cell op) }
 {
     Turn {
         stage,
-        need: Need::Step(CellId::Names(BackendId::ROOT), StoreOp::Names(op)),
-    }
-}
-
-impl Goal {
-    /// What the call does in the directory that its walk led to.
-    fn reach(self, names: u32, here: DirId) -> Turn
-        ensures shows { Shows result.need (after_walk self names here) result.stage }
-        ensures falls { (before : ℕ) → names ≤ before → Falls result.need before result.stage }
-        ensures root { AsksRoot result.need }
-    {
-        match self {
-            Goal::Ask => over(Reply::Dir),
-            Goal::Make(None | Some(Part::Here | Part::Up)) => fault(Errno::Eexist),
-            Goal::Make(Some(Part::TooLong)) => fault(Errno::Enametoolong),
-            Goal::Make(Some(Part::Down(_))) if names == 0 => fault(Errno::Enametoolong),
-            Goal::Make(Some(Part::Down(name))) => step(Stage::Making, NameOp::Makedir(here, name)),
-        }
+        need: Need::Step(cell, op),
     }
 }
 
 impl Trail {
-    /// Goes on from the directory that was reached.
-    pub(crate) fn proceed(mut self, here: DirId) -> Turn
-        ensures shows { Shows result.need (walk self.rest self.names here (after_walk self.goal)) result.stage }
-        ensures falls { Falls result.need self.names result.stage }
-        ensures root { AsksRoot result.need }
+    /// The start of a walk, from the root.
+    pub(crate) fn new(rest: Parts, manner: Manner, slash: bool, goal: Goal) -> Trail
+        ensures { result ≡ trail_from rest manner slash goal }
+    {
+        Trail {
+            rest,
+            manner,
+            slash,
+            names: PATH_NAMES_MAX,
+            links: SYMLOOP_MAX,
+            spot: Spot::root_of(0),
+            goal,
+        }
+    }
+
+    /// Follows the trail to the next step of the call.
+    pub(crate) fn proceed(self) -> Turn
+        ensures { Shows result.need (walk_of self (way_of self)) result.stage }
+    {
+        let mut trail = self;
+        loop {
+            let reached = match trail.advance() {
+                Advance::Asks(turn) => return turn,
+                Advance::Ends(goal, end) => goal.reach(end),
+            };
+            match reached {
+                Reached::Turn(turn) => return turn,
+                Reached::Trail(next) => trail = next,
+            }
+        }
+    }
+
+    /// The end of the walk.
+    pub(crate) fn finish(self, end: Result<End, Errno>) -> Turn
+        ensures { Shows result.need (goal_program self.goal end) result.stage }
+    {
+        match self.goal.reach(end) {
+            Reached::Turn(turn) => turn,
+            Reached::Trail(next) => next.proceed(),
+        }
+    }
+
+    /// Follows the trail until it asks for a step, or to its end.
+    fn advance(mut self) -> Advance
+        ensures { Advances self result }
     {
         while let Some(part) = self.rest.next() {
             match part {
                 Part::Here => {}
-                Part::Up if here == DirId::ROOT && self.names > 0 => self.names -= 1,
-                Part::Up => return self.ask(NameOp::Parent(here)),
-                Part::Down(name) => return self.ask(NameOp::Look(here, name)),
-                Part::TooLong => return fault(Errno::Enametoolong),
+                Part::TooLong => return self.end(Err(Errno::Enametoolong)),
+                _ if self.names == 0 => return self.end(Err(Errno::Enametoolong)),
+                Part::Up if self.spot.directory == 0 => {
+                    self.names -= 1;
+                    self.spot = Spot::root_of(0);
+                }
+                Part::Up => return Advance::Asks(self.ask_parent()),
+                Part::Down(name) => {
+                    let look = NameOp::Look(self.spot.dir(), name);
+                    return Advance::Asks(self.ask(look));
+                }
             }
         }
-        self.goal.reach(self.names, here)
+        let end = End::Directory(self.names, self.spot);
+        self.end(Ok(end))
     }
 
-    /// Asks for a step that takes one name.
-    fn ask(mut self, op: NameOp) -> Turn
-        ensures shows { Shows result.need (taken self.names (λ left. goes op (λ there. walk self.rest left there (after_walk self.goal)))) result.stage }
-        ensures falls { (before : ℕ) → self.names ≤ before → Falls result.need before result.stage }
-        ensures root { AsksRoot result.need }
+    fn end(self, end: Result<End, Errno>) -> Advance
+        ensures { result ≡ Advance.Ends self.goal end }
     {
-        if self.names == 0 {
-            return fault(Errno::Enametoolong);
-        }
+        Advance::Ends(self.goal, end)
+    }
+
+    /// Asks for the parent of its directory, which is no root.
+    fn ask_parent(self) -> Turn
+        requires some { (self.names == 0) ≡ false }
+        requires above { (self.spot.directory == 0) ≡ false }
+        ensures { Shows result.need (walk_of self (way_up self)) result.stage }
+    {
+        let parent = NameOp::Parent(self.spot.dir());
+        self.ask(parent)
+    }
+
+    /// Asks for a step on the names of its backend, which takes one name.
+    fn ask(mut self, op: NameOp) -> Turn
+        requires { 0 < self.names }
+        ensures { (result.stage ≡ Stage.Walking (with_one_name_less self))
+            × (result.need ≡ Need.Step (CellId.Names self.spot.backend) (StoreOp.Names op)) }
+    {
         self.names -= 1;
-        step(Stage::Walking(self), op)
+        let cell = self.spot.cell();
+        step(Stage::Walking(self), cell, StoreOp::Names(op))
+    }
+
+    /// Meets what an answer found. Want of memory changes nothing.
+    pub(crate) fn meet(
+        &mut self,
+        alloc: Global,
+        found: Result<Option<Node>, Errno>,
+    ) -> Result<Onward, AllocError>
+        ensures ok { IfOk result
+            (λ onward. Meets self.old (course_of self.old found) onward self.new) }
+        ensures err { OnErr result (self.new ≡ self.old) }
+    {
+        let node = match found {
+            Ok(Some(node)) => node,
+            Ok(None) => return Ok(Onward::Ends(Err(Errno::Enoent))),
+            Err(errno) => return Ok(Onward::Ends(Err(errno))),
+        };
+        match node {
+            Node::Dir(id) => self.spot.directory = id.number(),
+            Node::Mount(backend) => self.spot = Spot::root_of(backend.number()),
+            Node::File(file) => return Ok(Onward::Ends(self.end_at_file(file.number()))),
+            Node::Link(_, text) => return self.meet_link(alloc, text),
+        }
+        Ok(Onward::Goes)
+    }
+
+    /// A file ends a walk, mostly in an error.
+    fn end_at_file(&self, file: u64) -> Result<End, Errno>
+        ensures { Course.ends result
+            ≡ course_of self.now (Ok (Some (Node.File file))) }
+    {
+        if !self.rest.is_empty() || self.slash || self.manner == Manner::OnWay {
+            return Err(Errno::Enotdir);
+        }
+        Ok(End::File(self.spot.backend, file))
+    }
+
+    fn meet_link(&mut self, alloc: Global, text: PathText) -> Result<Onward, AllocError>
+        ensures ok { IfOk result
+            (λ onward. Meets self.old (course_along self.old text) onward self.new) }
+        ensures err { OnErr result (self.new ≡ self.old) }
+    {
+        let is_last = self.rest.is_empty();
+        if is_last && !self.manner.is_followed(self.slash) {
+            return Ok(Onward::Ends(Ok(End::LinkText(text))));
+        }
+        if self.links == 0 {
+            return Ok(Onward::Ends(Err(Errno::Eloop)));
+        }
+        let front = Parts::read(alloc, &text)?;
+        self.rest.put_front(front)?;
+        self.links -= 1;
+        if is_last {
+            self.slash |= has_slash(&text);
+        }
+        self.spot = self.spot.start_of(&text);
+        Ok(Onward::Goes)
     }
 }

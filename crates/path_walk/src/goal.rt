@@ -1,0 +1,310 @@
+ghost use Rattle.std.specs.Prelude.{◌≡◌, ◌==◌, Ok};
+ghost use Rattle.path_walk.specs.Calls.{cell_of_file, move_on, change_plan, faults_of, last_fault, last_faults, last_step, list_plan, move_faults, move_plan, move_step, name_of, op_of, parent_of, program_of, slash_fault, status_plan, text_fault, text_plan};
+ghost use Rattle.path_walk.specs.declared.call.Need.{Need};
+ghost use Rattle.path_walk.specs.declared.trail.Stage.{Stage};
+ghost use Rattle.path_walk.specs.Machine.{Shows, Reaches, goal_program};
+
+use crate::call::Reply;
+use crate::part::Part;
+use crate::route::{End, Route, Spot};
+use crate::step::{CellId, StoreOp};
+use crate::trail::{Stage, Trail, Turn, fault, over, step};
+use file_store::FileOp;
+use name_store::NameOp;
+use wf_core::{BackendId, DirId, Errno, FileId, GROUP_COUNT, Name, PathText, SYMLINK_MAX};
+
+/// A change of one entry.
+#[derive(Debug, Drop)]
+pub(crate) enum Change {
+    Makedir,
+    Remdir,
+    Remfile,
+    /// A link with that text.
+    Addlink(PathText),
+}
+
+/// The errors for a last component that is no name.
+#[derive(Clone, Copy, Debug, PartialEq, Eq)]
+pub(crate) struct LastFaults {
+    /// It is `.`.
+    pub(crate) dot: Errno,
+    /// It is `..`.
+    pub(crate) dot_dot: Errno,
+    /// There is none: the path is the root.
+    pub(crate) root: Errno,
+}
+
+/// What a call does where its walk has led to.
+#[derive(Debug, Drop)]
+pub(crate) enum Goal {
+    /// It asks what is there.
+    Status,
+    /// It asks for the text of the link there.
+    Text,
+    /// It asks for the names there, from that position on.
+    Names(u32),
+    /// It changes the entry under that last component. The flag says that a slash ends the path.
+    Entry(Change, Option<Part>, bool),
+    /// It goes on along the second path of a move.
+    MoveFrom(Option<Part>, bool, Result<Route, Errno>),
+    /// It moves the entry of the first directory and component. The flag says that a slash ends either path.
+    MoveTo(Spot, Option<Part>, bool, Option<Part>),
+}
+
+impl LastFaults {
+    fn new(dot: Errno, dot_dot: Errno, root: Errno) -> LastFaults
+        ensures { result ≡ last_faults dot dot_dot root }
+    {
+        LastFaults { dot, dot_dot, root }
+    }
+
+    fn of_move() -> LastFaults
+        ensures { result ≡ move_faults }
+    {
+        LastFaults::new(Errno::Einval, Errno::Einval, Errno::Ebusy)
+    }
+
+    /// A last component that is a name, or else its error.
+    fn name(self, last: Option<Part>) -> Result<Name, Errno>
+        ensures { result ≡ name_of self last }
+    {
+        match last {
+            None => Err(self.root),
+            Some(Part::Here) => Err(self.dot),
+            Some(Part::Up) => Err(self.dot_dot),
+            Some(Part::TooLong) => Err(Errno::Enametoolong),
+            Some(Part::Down(name)) => Ok(name),
+        }
+    }
+}
+
+impl Change {
+    fn faults(&self) -> LastFaults
+        ensures { result ≡ faults_of self.now }
+    {
+        match self {
+            Change::Makedir | Change::Addlink(_) => {
+                LastFaults::new(Errno::Eexist, Errno::Eexist, Errno::Eexist)
+            }
+            Change::Remdir => LastFaults::new(Errno::Einval, Errno::Enotempty, Errno::Ebusy),
+            Change::Remfile => LastFaults::new(Errno::Eisdir, Errno::Eisdir, Errno::Eisdir),
+        }
+    }
+
+    fn slash_fault(&self, slash: bool) -> Option<Errno>
+        ensures { result ≡ slash_fault self.now slash }
+    {
+        match self {
+            Change::Addlink(_) if slash => Some(Errno::Enoent),
+            _ => None,
+        }
+    }
+
+    fn op(self, directory: DirId, name: Name, slash: bool) -> NameOp
+        ensures { result ≡ op_of self directory name slash }
+    {
+        match self {
+            Change::Makedir => NameOp::Makedir(directory, name),
+            Change::Remdir => NameOp::Remdir(directory, name),
+            Change::Remfile => NameOp::Remfile {
+                directory,
+                name,
+                slash,
+            },
+            Change::Addlink(text) => NameOp::Addlink {
+                directory,
+                name,
+                text,
+            },
+        }
+    }
+
+    fn turn(self, last: Option<Part>, slash: bool, spot: Spot) -> Turn
+        ensures { Shows result.need (program_of (change_plan self last slash spot)) result.stage }
+    {
+        let name = match self.faults().name(last) {
+            Ok(name) => name,
+            Err(errno) => return fault(errno),
+        };
+        if let Some(errno) = self.slash_fault(slash) {
+            return fault(errno);
+        }
+        last_step(spot.backend, self.op(spot.dir(), name, slash))
+    }
+}
+
+/// The error of a link's text.
+pub(crate) fn text_fault(text: &PathText) -> Option<Errno>
+    ensures { result ≡ text_fault text.now }
+{
+    let length = text.as_bytes().len();
+    if length == 0 {
+        return Some(Errno::Enoent);
+    }
+    if length > SYMLINK_MAX {
+        return Some(Errno::Enametoolong);
+    }
+    None
+}
+
+/// The error of a last component that takes a name too many, or too long a one.
+fn last_fault(last: &Option<Part>, names: u32) -> Option<Errno>
+    ensures { result ≡ last_fault last.now names }
+{
+    match last {
+        Some(Part::TooLong) => Some(Errno::Enametoolong),
+        Some(Part::Down(_)) if names == 0 => Some(Errno::Enametoolong),
+        _ => None,
+    }
+}
+
+fn last_step(backend: u32, op: NameOp) -> Turn
+    ensures { Shows result.need (program_of (last_step backend op)) result.stage }
+{
+    step(
+        Stage::LastOnNames(backend),
+        CellId::Names(BackendId::new(backend)),
+        StoreOp::Names(op),
+    )
+}
+
+/// The last step of a call on a file.
+pub(crate) fn step_on_file(backend: u32, file: u64, op: FileOp) -> Turn
+    ensures { (result.stage ≡ Stage.LastOnFiles)
+        × (result.need ≡ Need.Step (cell_of_file backend file) (StoreOp.Files op)) }
+{
+    step(
+        Stage::LastOnFiles,
+        CellId::Files(BackendId::new(backend), (file % GROUP_COUNT) as u32),
+        StoreOp::Files(op),
+    )
+}
+
+fn move_turn(from: Spot, name: Name, slash: bool, to: Spot, new_name: Name) -> Turn
+    ensures { Shows result.need (program_of (move_step from name slash to new_name)) result.stage }
+{
+    if from.backend != to.backend {
+        return fault(Errno::Exdev);
+    }
+    last_step(
+        from.backend,
+        NameOp::Move {
+            from: from.dir(),
+            name,
+            to: to.dir(),
+            new_name,
+            slash,
+        },
+    )
+}
+
+fn move_to(from: Spot, last: Option<Part>, slash: bool, new_last: Option<Part>, to: Spot) -> Turn
+    ensures { Shows result.need (program_of (move_plan from last slash new_last to)) result.stage }
+{
+    let name = match LastFaults::of_move().name(last) {
+        Ok(name) => name,
+        Err(errno) => return fault(errno),
+    };
+    match LastFaults::of_move().name(new_last) {
+        Ok(new_name) => move_turn(from, name, slash, to, new_name),
+        Err(errno) => fault(errno),
+    }
+}
+
+fn status(end: End) -> Turn
+    ensures { Shows result.need (program_of (status_plan (Ok end))) result.stage }
+{
+    match end {
+        End::Directory(_, _) => over(Reply::Dir),
+        End::File(backend, file) => step_on_file(backend, file, FileOp::Sizeof(FileId::new(file))),
+        End::LinkText(text) => over(Reply::Link(text.as_bytes().len() as u64)),
+    }
+}
+
+fn text(end: End) -> Turn
+    ensures { Shows result.need (program_of (text_plan (Ok end))) result.stage }
+{
+    match end {
+        End::LinkText(text) => over(Reply::Text(text)),
+        End::Directory(_, _) | End::File(_, _) => fault(Errno::Einval),
+    }
+}
+
+fn names(start: u32, end: End) -> Turn
+    ensures { Shows result.need (program_of (list_plan start (Ok end))) result.stage }
+{
+    match end {
+        End::Directory(_, spot) => last_step(
+            spot.backend,
+            NameOp::List {
+                directory: spot.dir(),
+                start,
+            },
+        ),
+        End::File(_, _) | End::LinkText(_) => fault(Errno::Enotdir),
+    }
+}
+
+/// The directory at the end of the path before its last component, if that may still be taken.
+fn parent(last: &Option<Part>, end: End) -> Result<Spot, Errno>
+    ensures { result ≡ parent_of last.now end }
+{
+    match end {
+        End::Directory(names, spot) => match last_fault(last, names) {
+            Some(errno) => Err(errno),
+            None => Ok(spot),
+        },
+        End::File(_, _) | End::LinkText(_) => Err(Errno::Enotdir),
+    }
+}
+
+/// What follows the walk of a goal: the call's last step or its reply, or another walk.
+#[derive(Drop)]
+pub(crate) enum Reached {
+    Turn(Turn),
+    Trail(Trail),
+}
+
+impl Goal {
+    /// What the call does at the end of its walk.
+    pub(crate) fn reach(self, end: Result<End, Errno>) -> Reached
+        ensures { Reaches self (goal_program self end) result }
+    {
+        let end = match end {
+            Ok(end) => end,
+            Err(errno) => return Reached::Turn(fault(errno)),
+        };
+        match self {
+            Goal::Status => Reached::Turn(status(end)),
+            Goal::Text => Reached::Turn(text(end)),
+            Goal::Names(start) => Reached::Turn(names(start, end)),
+            Goal::Entry(change, last, slash) => Reached::Turn(match parent(&last, end) {
+                Ok(spot) => change.turn(last, slash, spot),
+                Err(errno) => fault(errno),
+            }),
+            Goal::MoveTo(from, last, slash, new_last) => {
+                Reached::Turn(match parent(&new_last, end) {
+                    Ok(to) => move_to(from, last, slash, new_last, to),
+                    Err(errno) => fault(errno),
+                })
+            }
+            Goal::MoveFrom(last, slash, new) => match parent(&last, end) {
+                Ok(from) => move_from(last, slash, new, from),
+                Err(errno) => Reached::Turn(fault(errno)),
+            },
+        }
+    }
+}
+
+fn move_from(last: Option<Part>, slash: bool, new: Result<Route, Errno>, from: Spot) -> Reached
+    ensures { Reaches (Goal.MoveFrom last slash new)
+        (program_of (move_on last slash new from)) result }
+{
+    match new {
+        Err(errno) => Reached::Turn(fault(errno)),
+        Ok(route) => {
+            let goal = Goal::MoveTo(from, last, slash | route.slash, route.last);
+            Reached::Trail(Trail::new(route.parts, route.manner, route.slash, goal))
+        }
+    }
+}

@@ -1,0 +1,168 @@
+ghost use Rattle.std.specs.Prelude.{◌≡◌, ◌==◌, length, not, IfOk};
+ghost use Rattle.path_walk.specs.Paths.{components, ends_in_slash, path_fault, slash_of};
+ghost use Rattle.path_walk.specs.PathMeaning.{root_of, start_of, is_followed};
+ghost use Rattle.path_walk.specs.Calls.{parent_route, whole_route};
+
+use crate::part::{Part, Parts};
+use crate::step::CellId;
+use std::alloc::{AllocError, Global};
+use wf_core::{BackendId, DirId, Errno, PATH_MAX, PathText};
+
+/// What the last of the parts is to a walk.
+#[derive(Clone, Copy, Debug, PartialEq, Eq)]
+pub(crate) enum Manner {
+    /// No more than a directory on the way.
+    OnWay,
+    /// The path's last component, followed where it is a link.
+    Follows,
+    /// The same, not followed unless a slash ends the path.
+    Stays,
+}
+
+impl Manner {
+    /// Whether a last link is followed.
+    pub(crate) fn is_followed(self, slash: bool) -> bool
+        ensures { result ≡ is_followed self slash }
+    {
+        match self {
+            Manner::OnWay | Manner::Follows => true,
+            Manner::Stays => slash,
+        }
+    }
+}
+
+/// A directory of a backend.
+#[derive(Clone, Copy, Debug, PartialEq, Eq)]
+pub(crate) struct Spot {
+    pub(crate) backend: u32,
+    pub(crate) directory: u64,
+}
+
+impl Spot {
+    /// The cell of its names.
+    pub(crate) fn cell(self) -> CellId
+        ensures { result ≡ CellId.Names self.backend }
+    {
+        CellId::Names(BackendId::new(self.backend))
+    }
+
+    pub(crate) fn dir(self) -> DirId
+        ensures { result ≡ self.directory }
+    {
+        DirId::new(self.directory)
+    }
+
+    /// The root directory of a backend.
+    pub(crate) fn root_of(backend: u32) -> Spot
+        ensures { result ≡ root_of backend }
+    {
+        Spot {
+            backend,
+            directory: 0,
+        }
+    }
+
+    /// Where a text starts: at the root where it begins with a slash, else here.
+    pub(crate) fn start_of(self, text: &PathText) -> Spot
+        ensures { result ≡ start_of text.now self }
+    {
+        if text.as_bytes().first() == Some(&b'/') {
+            return Spot::root_of(0);
+        }
+        self
+    }
+}
+
+/// Where a walk ended.
+#[derive(Debug, Drop)]
+pub(crate) enum End {
+    /// A directory, with so many names that the path may still take.
+    Directory(u32, Spot),
+    /// A file of a backend.
+    File(u32, u64),
+    /// A link that is not followed, by its text.
+    LinkText(PathText),
+}
+
+/// What a call walks of a path: its parts, or those before the last, which is then kept apart.
+#[derive(Debug, Drop)]
+pub(crate) struct Route {
+    pub(crate) parts: Parts,
+    pub(crate) last: Option<Part>,
+    pub(crate) manner: Manner,
+    pub(crate) slash: bool,
+}
+
+fn fault_of(path: &PathText) -> Option<Errno>
+    ensures { result ≡ path_fault path.now }
+{
+    let length = path.as_bytes().len();
+    if length == 0 {
+        return Some(Errno::Enoent);
+    }
+    if length >= PATH_MAX {
+        return Some(Errno::Enametoolong);
+    }
+    None
+}
+
+fn has_component(path: &[u8]) -> bool
+    ensures { result ≡ not (length (components path.now) == 0) }
+{
+    path.iter().any(|byte| *byte != b'/')
+}
+
+fn ends_in_slash(path: &[u8]) -> bool
+    ensures { result ≡ ends_in_slash path.now }
+{
+    match path.last() {
+        Some(byte) => *byte == b'/',
+        None => false,
+    }
+}
+
+/// Whether the path has a component and ends in a slash.
+pub(crate) fn has_slash(path: &PathText) -> bool
+    ensures { result ≡ slash_of path.now }
+{
+    let bytes = path.as_bytes();
+    has_component(bytes) && ends_in_slash(bytes)
+}
+
+impl Route {
+    /// Along the whole path.
+    pub(crate) fn whole(
+        alloc: Global,
+        manner: Manner,
+        path: &PathText,
+    ) -> Result<Result<Route, Errno>, AllocError>
+        ensures { IfOk result (λ route. route ≡ whole_route manner path.now) }
+    {
+        if let Some(errno) = fault_of(path) {
+            return Ok(Err(errno));
+        }
+        Ok(Ok(Route {
+            parts: Parts::read(alloc, path)?,
+            last: None,
+            manner,
+            slash: has_slash(path),
+        }))
+    }
+
+    /// Along the path before its last component.
+    pub(crate) fn parent(alloc: Global, path: &PathText) -> Result<Result<Route, Errno>, AllocError>
+        ensures { IfOk result (λ route. route ≡ parent_route path.now) }
+    {
+        if let Some(errno) = fault_of(path) {
+            return Ok(Err(errno));
+        }
+        let mut parts = Parts::read(alloc, path)?;
+        let last = parts.take_last();
+        Ok(Ok(Route {
+            parts,
+            last,
+            manner: Manner::OnWay,
+            slash: has_slash(path),
+        }))
+    }
+}
