@@ -1,3 +1,3 @@
 pub mod Runs
 pub mod Solo
-pub mod RootStore
+pub mod RunStores

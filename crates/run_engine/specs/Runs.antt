@@ -1,5 +1,5 @@
 -- What every top call promises: with which status it ends, and what it has then read and written.
-use Rattle.std.specs.Prelude.{◌≡◌, ◌⊎◌, ◌↔◌, ◌+◌, ◌<◌, ◌≤◌, ℕ, Bool, true, false, List, [], ◌∷◌, ◌++◌, codes, Option, Result, Ok, Err, IfSome, MatchBool, MatchResult}
+use Rattle.std.specs.Prelude.{◌≡◌, ◌⊎◌, ◌↔◌, ◌+◌, ◌<◌, ◌≤◌, ℕ, Bool, true, false, List, [], ◌∷◌, ◌++◌, codes, Option, None, Some, IfSome, MatchBool}
 use Rattle.std.specs.Io.KnownBytes.{Appends, IsAtEnd}
 use Rattle.wf_core.specs.Bytes.{AppendsFront}
 use Rattle.wf_core.specs.Faults.{Rose}
@@ -7,10 +7,10 @@ use Rattle.wf_core.specs.Limits.{input_max}
 use Rattle.wf_core.specs.Statuses.{WritesNothing}
 use Rattle.wf_core.specs.declared.run_status.RunStatus.{RunStatus}
 use Rattle.wf_core.specs.declared.run_status.RunStatus.TheVariants.{Done, Refused, Usage, ReadFault, WriteFault, NoMemory, TooLong}
-use Rattle.trace_text.specs.declared.refusal.TraceRefusal.{TraceRefusal}
-use Rattle.trace_text.specs.Traces.{Traced}
+use Rattle.trace_text.specs.declared.refusal.Refusal.{Refusal}
+use Rattle.trace_text.specs.declared.trace.Mode.TheVariants.{Plain}
 use Rattle.trace_text.specs.Texts.{refusal_text}
-use Rattle.trace_text.specs.Grammar.{trace_at}
+use Rattle.trace_text.specs.Faults.{first_fault}
 
 -- the line that wrong words are answered with
 abbrev pub usage_text : List ℕ
@@ -32,25 +32,30 @@ abbrev pub streams : Option (List ℕ) → ℕ → ℕ → Option (List ℕ) →
 streams left given read_faults written write_faults =
     record { left = left; given = given; read_faults = read_faults; written = written; write_faults = write_faults }
 
--- the status that is due for an input
-abbrev pub status_of : Result Traced TraceRefusal → RunStatus
-status_of (Ok trace) = Done
-status_of (Err refusal) = Refused
+-- the status that is due for an input: it has a faulty line, or it is a trace
+abbrev pub status_of : Option Refusal → RunStatus
+status_of None = Done
+status_of (Some refusal) = Refused
 
 abbrev pub status_due : List ℕ → RunStatus
-status_due bytes = status_of (trace_at bytes)
+status_due bytes = status_of (first_fault bytes Plain)
 
--- the text is the line of the first fault of bytes that spell no trace
+-- the text is the line of the first fault of bytes that are no trace
 abbrev pub IsRefusalText : List ℕ → List ℕ → Type 0
-IsRefusalText bytes text = (refusal : TraceRefusal) × (trace_at bytes ≡ Err refusal) × (text ≡ refusal_text refusal)
+IsRefusalText bytes text = (refusal : Refusal) × (first_fault bytes Plain ≡ Some refusal) × (text ≡ refusal_text refusal)
 
 -- a text of the call, `IsText`, was written
 abbrev pub Writes : (List ℕ → Type 0) → Option (List ℕ) → Option (List ℕ) → Type 0
 Writes IsText old new = (text : List ℕ) × IsText text × Appends old new text
 
--- the text is due for an input: that of its trace, or its refusal's line
+-- the text is due: that of the trace, where no line is faulty, or the line of the refusal
+abbrev pub IsDue : Type 0 → List ℕ → Option Refusal → Type 0
+IsDue Text text None = Text
+IsDue Text text (Some refusal) = text ≡ refusal_text refusal
+
+-- the text is due for an input
 abbrev pub IsDueText : (List ℕ → List ℕ → Type 0) → List ℕ → List ℕ → Type 0
-IsDueText IsText bytes text = MatchResult (trace_at bytes) (λ trace. IsText bytes text) (λ refusal. text ≡ refusal_text refusal)
+IsDueText IsText bytes text = IsDue (IsText bytes text) text (first_fault bytes Plain)
 
 -- a front of the text that is due was written
 abbrev pub WritesFront : (List ℕ → List ℕ → Type 0) → List ℕ → Option (List ℕ) → Option (List ℕ) → Type 0

@@ -2,6 +2,7 @@
 use Rattle.std.specs.Prelude.{ℕ, Bool, false, List, [], ◌∷◌, codes}
 use Rattle.wf_core.specs.Names.{is_text}
 use Rattle.wf_core.specs.declared.run_status.RunStatus.{RunStatus}
+use Rattle.trace_text.specs.declared.trace.Mode.TheVariants.{Plain}
 use Rattle.trace_text.specs.SoloText.{IsSoloText}
 use Rattle.run_engine.specs.Runs.{IsRun, Streams}
 
@@ -11,6 +12,10 @@ is_solo [] = false
 is_solo (word ∷ []) = is_text word (codes "solo")
 is_solo (word ∷ other ∷ words) = false
 
+-- the text is that of the trace of mode Plain that the bytes are
+abbrev pub IsPlainText : List ℕ → List ℕ → Type 0
+IsPlainText bytes text = IsSoloText bytes Plain text
+
 -- a run with these words, which ends with that status
 abbrev pub IsSoloRun : List (List ℕ) → RunStatus → Streams → Streams → Type 0
-IsSoloRun words status old new = IsRun IsSoloText (is_solo words) status old new
+IsSoloRun words status old new = IsRun IsPlainText (is_solo words) status old new

@@ -3,13 +3,12 @@ ghost use Rattle.std.specs.String.{string_bytes};
 ghost use Rattle.std.specs.Io.KnownBytes.{Appends};
 ghost use Rattle.wf_core.specs.Bytes.{AppendsFront};
 ghost use Rattle.wf_core.specs.Faults.{Rose};
-ghost use Rattle.trace_text.specs.SoloText.{IsSoloText};
 ghost use Rattle.run_engine.specs.Runs.{IsDueText, status_due, streams};
-ghost use Rattle.run_engine.specs.Solo.{IsSoloRun, is_solo};
+ghost use Rattle.run_engine.specs.Solo.{IsPlainText, IsSoloRun, is_solo};
 
 use crate::solo_run::run_solo;
 use std::alloc::{AllocError, Global};
-use trace_text::{TraceRefusal, read_trace, refusal_line};
+use trace_text::{Mode, TraceRefusal, read_trace, refusal_line};
 use wf_core::{INPUT_MAX, InputFault, RunStatus, Sink, Source, read_input, write_text};
 
 /// The line that wrong words are answered with.
@@ -63,17 +62,17 @@ struct Due {
 
 fn due_for(alloc: Global, input: &[u8]) -> Result<Due, AllocError>
     ensures status { IfOk result (λ due. due.status ≡ status_due input.now) }
-    ensures text { IfOk result (λ due. IsDueText IsSoloText input.now due.text.items) }
+    ensures text { IfOk result (λ due. IsDueText IsPlainText input.now due.text.items) }
 {
-    match read_trace(alloc, input) {
+    match read_trace(alloc, input, Mode::Plain) {
         Ok(trace) => Ok(Due {
             status: RunStatus::Done,
             text: run_solo(alloc, trace)?,
         }),
         Err(TraceRefusal::NoMemory) => Err(AllocError),
-        Err(refusal) => Ok(Due {
+        Err(TraceRefusal::Faulty(refusal)) => Ok(Due {
             status: RunStatus::Refused,
-            text: refusal_line(alloc, &refusal)?,
+            text: refusal_line(alloc, refusal)?,
         }),
     }
 }

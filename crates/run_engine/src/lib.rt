@@ -4,5 +4,5 @@
 pub use commands::solo;
 
 mod commands;
-mod root_store;
+mod run_store;
 mod solo_run;

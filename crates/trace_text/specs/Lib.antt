@@ -1,7 +1,12 @@
 pub mod Traces
+pub mod Refusals
 pub mod Fields
+pub mod Words
+pub mod Lines
 pub mod Grammar
 pub mod Reading
-pub mod Spelling
 pub mod Texts
 pub mod SoloText
+pub mod Faults
+pub mod Spelling
+pub mod Laws

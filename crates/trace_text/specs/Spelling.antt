@@ -1,36 +1,25 @@
--- How a trace is spelled: one spelling for each trace, apart from how it is read.
-use Rattle.std.specs.Prelude.{◌≡◌, ℕ, ◌+◌, true, List, [], ◌∷◌, ◌++◌, codes}
-use Rattle.std.specs.List.{flat_map}
-use Rattle.path_walk.specs.declared.call.Call.{Call}
-use Rattle.path_walk.specs.declared.call.Call.TheVariants.{Mkdir, Stat}
-use Rattle.trace_text.specs.declared.trace.CallLine.{CallLine}
-use Rattle.trace_text.specs.Traces.{Traced}
-use Rattle.trace_text.specs.Fields.{header, is_label, is_path}
+-- How a text field is spelled, apart from how it is read.
+use Rattle.std.specs.Prelude.{◌≡◌, ℕ, ◌+◌, ◌-◌, ◌*◌, ◌≤◌, ◌⊎◌, true, List, [], ◌∷◌, codes}
+use Rattle.trace_text.specs.Fields.{is_plain}
 
-abbrev pub call_text : Call → List ℕ
-call_text (Mkdir path) = codes "mkdir " ++ path
-call_text (Stat path) = codes "stat " ++ path
+-- a digit 0 to 9, `A` to `F` or `a` to `f` has that value
+abbrev pub IsHex : ℕ → ℕ → Type 0
+IsHex digit value =
+    ((48 ≤ digit) × (digit ≤ 57) × (value ≡ digit - 48))
+    ⊎ ((65 ≤ digit) × (digit ≤ 70) × (value ≡ digit - 55))
+    ⊎ ((97 ≤ digit) × (digit ≤ 102) × (value ≡ digit - 87))
 
-abbrev pub path_of : Call → List ℕ
-path_of (Mkdir path) = path
-path_of (Stat path) = path
+-- a plain byte stands for itself, and `%` with two digits for the byte that they write; `rest` is what follows
+abbrev pub SpellsByte : List ℕ → ℕ → List ℕ → Type 0
+SpellsByte field byte rest =
+    ((is_plain byte ≡ true) × (field ≡ byte ∷ rest))
+    ⊎ ((high low h l : ℕ) × (field ≡ 37 ∷ high ∷ low ∷ rest) × IsHex high h × IsHex low l × (byte ≡ 16 * h + l))
 
--- `NAME: CALL`
-abbrev pub call_line : List ℕ → CallLine → List ℕ
-call_line name line = name ++ codes ": " ++ call_text line.call ++ 10 ∷ []
+abbrev pub SpellsBytes : List ℕ → List ℕ → Type 0
+SpellsBytes field [] = field ≡ []
+SpellsBytes field (byte ∷ text) = (rest : List ℕ) × SpellsByte field byte rest × SpellsBytes rest text
 
--- the calls are numbered from `number` on, all of thread 0, and their paths are paths
-abbrev pub AreCalls : ℕ → List CallLine → Type 0
-AreCalls number [] = Unit {0}
-AreCalls number (line ∷ lines) = (line.thread ≡ 0) × (line.number ≡ number) × (is_path (path_of line.call) ≡ true) × AreCalls (number + 1) lines
-
--- the lines after the first: none, or a thread's and its calls'
-abbrev pub IsBody : List (List ℕ) → List CallLine → List ℕ → Type 0
-IsBody [] [] text = text ≡ []
-IsBody [] (line ∷ lines) text = ⊥
-IsBody (name ∷ []) lines text = (is_label name ≡ true) × AreCalls 1 lines × (text ≡ codes "thread " ++ name ++ 10 ∷ flat_map (call_line name) lines)
-IsBody (name ∷ other ∷ names) lines text = ⊥
-
--- the bytes are this trace's spelling
-abbrev pub Reads : List ℕ → Traced → Type 0
-Reads bytes trace = (text : List ℕ) × IsBody trace.threads trace.calls text × (bytes ≡ header ++ 10 ∷ text)
+-- the empty text is `%_`
+abbrev pub SpellsText : List ℕ → List ℕ → Type 0
+SpellsText field [] = field ≡ codes "%_"
+SpellsText field (byte ∷ text) = SpellsBytes field (byte ∷ text)

@@ -1,11 +1,31 @@
 use path_walk::Call;
 use wf_core::Text;
 
-/// A trace that was read: the threads' names in order of declaration, and the calls in the trace's order.
+/// Which lines a trace may have.
+#[derive(Clone, Copy, Debug, PartialEq, Eq)]
+pub enum Mode {
+    /// Those of file calls alone.
+    Plain,
+}
+
+/// A trace that was read, with its declarations and its calls in their order.
 #[derive(Debug, Drop)]
 pub struct Trace {
+    /// The number of the format, as line 1 has it.
+    pub version: u32,
+    /// The names of the threads.
     pub threads: Vec<Text>,
+    /// The backends besides the root's, which is number 0: the first of these is number 1.
+    pub backends: Vec<BackendLine>,
     pub calls: Vec<CallLine>,
+}
+
+/// A backend of a trace, mounted in the root directory under its name.
+#[derive(Debug, Drop)]
+pub struct BackendLine {
+    pub name: Text,
+    /// Whether a worker is to take its steps.
+    pub proxied: bool,
 }
 
 /// A call of a trace.
@@ -16,11 +36,4 @@ pub struct CallLine {
     /// Its number among the calls of that thread, counted from 1.
     pub number: u32,
     pub call: Call,
-}
-
-/// The word of a call.
-#[derive(Clone, Copy, Debug, PartialEq, Eq)]
-pub(crate) enum CallWord {
-    Mkdir,
-    Stat,
 }

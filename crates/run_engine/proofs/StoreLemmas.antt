@@ -1,0 +1,94 @@
+-- What a step leaves of the store of one run.
+use Rattle.std.proofs.Common.{◌≡◌, ◌≢◌, ℕ, ◌<◌, zero, suc, inl, inr, ◌⊎◌, List, [], ◌∷◌, length, Option, None, Some, Result, Ok, Err, IfOk, OnErr, slice_get, slice_set, get_or, unwrap_or, refl, sym, ap, subst, ◌∙◌, arith, length-set}
+use Rattle.std.proofs.lemmas.Option.{slice_get_read, slice_get_within}
+use Rattle.std.specs.declared.alloc.AllocError.{AllocError}
+use Rattle.wf_core.specs.Limits.{group_count}
+use Rattle.name_store.specs.declared.operation.Node.{Node}
+use Rattle.name_store.specs.declared.operation.Node.TheVariants.{Dir, Link, File, Mount}
+use Rattle.name_store.specs.declared.operation.NameOp.{NameOp}
+use Rattle.name_store.specs.declared.operation.NameOp.TheVariants as op
+use Rattle.name_store.specs.declared.operation.NameAnswer.{NameAnswer}
+use Rattle.name_store.specs.NameTrees.{Tree, nstep}
+use Rattle.name_store.specs.Sound.{IsSound, node_at}
+use Rattle.name_store.specs.EntryLaws.{tree_after}
+use Rattle.name_store.proofs.EntryLemmas.{mounts_after}
+use Rattle.file_store.specs.declared.file_operation.FileOp.{FileOp}
+use Rattle.file_store.specs.declared.file_operation.FileAnswer.{FileAnswer}
+use Rattle.file_store.specs.FileGroups.{Group, fstep, opening as group_opening}
+use Rattle.path_walk.specs.declared.step.StoreAnswer.TheVariants.{Names as NamesAnswer, Files as FilesAnswer}
+use Rattle.path_walk.specs.Store.{Backend, Store, Stepped, backend_at, group_at}
+use Rattle.run_engine.specs.RunStores.{IsBackend, IsRunStore, MountsAmong, IsNamesStep, IsFilesStep, backends_of}
+
+-- a backend that is there
+at_there : (store : Store) (number : ℕ) (backend : Backend) → slice_get store number ≡ Some backend → backend_at store number ≡ backend
+at_there store number backend here = ap (λ (b : Option Backend). unwrap_or b (record { names = []; groups = [] })) here
+
+abbrev some : {X : Type 0} → X → Option X
+some x = Some x
+
+-- an item that was read at a place
+pub read_at : {X : Type 0} (xs now : List X) (place given : ℕ) (old found : X) → xs ≡ now → place ≡ given → given < length now → old ≡ found → found ≡ get_or xs place found → slice_get xs place ≡ Some old
+read_at xs now place given old found same at within is read =
+    let inside : place < length xs = subst (λ (l : List _). place < length l) (sym same) (subst (λ (n : ℕ). n < length now) (sym at) within) in
+    slice_get_read xs (length xs) place found refl inside read ∙ ap some (sym is)
+
+-- the root's backend is there
+pub all_backends : (store : Store) → IsRunStore store → backends_of store ≡ length store
+all_backends store is =
+    let root : 0 < length store = is.root in
+    omega (arith, root)
+
+-- what is there after one item was set
+set_cases : {X : Type 0} (xs : List X) (place other : ℕ) (x y : X) → slice_get (slice_set xs place x) other ≡ Some y → (y ≡ x) ⊎ (slice_get xs other ≡ Some y)
+set_cases [] place other x y here = cc
+set_cases (first ∷ xs) zero zero x y here = inl (cc)
+set_cases (first ∷ xs) zero (suc other) x y here = inr here
+set_cases (first ∷ xs) (suc place) zero x y here = inr here
+set_cases (first ∷ xs) (suc place) (suc other) x y here = set_cases xs place other x y here
+
+-- the store in which one backend was changed
+pub with_changed : (store : Store) (number : ℕ) (new : Backend) → IsRunStore store → IsBackend (length store) new → IsRunStore (slice_set store number new)
+with_changed store number new is fits = record {
+  root = subst (λ (n : ℕ). 0 < n) (sym (length-set store number new)) is.root;
+  each = λ other backend here.
+      subst (λ (n : ℕ). IsBackend n backend) (sym (length-set store number new))
+      (elim (set_cases store number other new backend here) [
+        | inl same ↦ subst (IsBackend (length store)) (sym same) fits
+        | inr there ↦ is.each other backend there
+      ]);
+}
+
+-- a step on names changes no mount
+mounts_kept : (backends : ℕ) (old new : Tree) (op : NameOp) (r : Result NameAnswer AllocError) → IsSound old → MountsAmong backends old → IfOk r (λ answer. nstep old op ≡ record { tree = new; answer = answer }) → OnErr r (new ≡ old) → MountsAmong backends new
+mounts_kept backends old new op (Ok answer) sound among told left = λ id name backend here.
+    among id name backend ((mounts_after old (op ∷ []) sound id name backend).0 (ap (λ (o : _). node_at o.tree id name) told ∙ here))
+mounts_kept backends old new op (Err error) sound among told left = subst (MountsAmong backends) (sym left) among
+
+pub names_fit : (backends : ℕ) (old : Backend) (new : Tree) (op : NameOp) (r : Result NameAnswer AllocError) → IsBackend backends old → IfOk r (λ answer. nstep old.names op ≡ record { tree = new; answer = answer }) → OnErr r (new ≡ old.names) → IsSound new → IsBackend backends (record { names = new; groups = old.groups })
+names_fit backends old new op r is told left sound = record {
+  groups = is.groups;
+  sound = sound;
+  mounts = mounts_kept backends old.names new op r is.sound is.mounts told left;
+}
+
+pub files_fit : (backends : ℕ) (old : Backend) (group : ℕ) (new : Group) → IsBackend backends old → IsBackend backends (record { names = old.names; groups = slice_set old.groups group new })
+files_fit backends old group new is = record {
+  groups = length-set old.groups group new ∙ is.groups;
+  sound = is.sound;
+  mounts = is.mounts;
+}
+
+-- a step on the names of a backend is the definition's
+pub names_told : (store : Store) (number : ℕ) (old : Backend) (new : Tree) (op : NameOp) (r : Result NameAnswer AllocError) → slice_get store number ≡ Some old → IfOk r (λ answer. nstep old.names op ≡ record { tree = new; answer = answer }) → IfOk r (IsNamesStep store number op (slice_set store number (record { names = new; groups = old.groups })))
+names_told store number old new op (Ok answer) here told =
+    ap (λ (b : Backend). let s : Stepped = record { store = slice_set store number (record b { names = (nstep b.names op).tree }); answer = NamesAnswer (nstep b.names op).answer } in s) (at_there store number old here)
+    ∙ ap (λ (o : _). let s : Stepped = record { store = slice_set store number (record old { names = o.tree }); answer = NamesAnswer o.answer } in s) told
+names_told store number old new op (Err error) here told = tt
+
+-- a step on a group of files of a backend is the definition's
+pub files_told : (store : Store) (number group : ℕ) (old : Backend) (files new : Group) (op : FileOp) (r : Result FileAnswer AllocError) → slice_get store number ≡ Some old → slice_get old.groups group ≡ Some files → IfOk r (λ answer. fstep files op ≡ record { group = new; answer = answer }) → IfOk r (IsFilesStep store number group op (slice_set store number (record { names = old.names; groups = slice_set old.groups group new })))
+files_told store number group old files new op (Ok answer) here there told =
+    ap (λ (b : Backend). let s : Stepped = record { store = slice_set store number (record b { groups = slice_set b.groups group (fstep (unwrap_or (slice_get b.groups group) (group_opening group)) op).group }); answer = FilesAnswer (fstep (unwrap_or (slice_get b.groups group) (group_opening group)) op).answer } in s) (at_there store number old here)
+    ∙ ap (λ (g : Option Group). let s : Stepped = record { store = slice_set store number (record old { groups = slice_set old.groups group (fstep (unwrap_or g (group_opening group)) op).group }); answer = FilesAnswer (fstep (unwrap_or g (group_opening group)) op).answer } in s) there
+    ∙ ap (λ (o : _). let s : Stepped = record { store = slice_set store number (record old { groups = slice_set old.groups group o.group }); answer = FilesAnswer o.answer } in s) told
+files_told store number group old files new op (Err error) here there told = tt

@@ -1,0 +1,46 @@
+-- The store of one run, and what a step leaves of it.
+use Rattle.std.specs.Prelude.{◌≡◌, ℕ, ◌<◌, max, true, List, length, Some, slice_get}
+use Rattle.std.specs.List.{list_all}
+use Rattle.wf_core.specs.Limits.{backends_max, group_count}
+use Rattle.wf_core.specs.Names.{is_name}
+use Rattle.name_store.specs.declared.operation.Node.TheVariants.{Mount}
+use Rattle.name_store.specs.declared.operation.NameOp.{NameOp}
+use Rattle.name_store.specs.declared.operation.NameAnswer.{NameAnswer}
+use Rattle.name_store.specs.NameTrees.{Tree}
+use Rattle.name_store.specs.Sound.{IsSound, node_at}
+use Rattle.file_store.specs.declared.file_operation.FileOp.{FileOp}
+use Rattle.file_store.specs.declared.file_operation.FileAnswer.{FileAnswer}
+use Rattle.path_walk.specs.declared.step.StoreAnswer.TheVariants.{Names as NamesAnswer, Files as FilesAnswer}
+use Rattle.path_walk.specs.Store.{Backend, Store, names_step, files_step}
+use Rattle.trace_text.specs.declared.trace.BackendLine.{BackendLine}
+
+-- how many backends there are: the root's is always there
+abbrev pub backends_of : Store → ℕ
+backends_of store = max 1 (length store)
+
+-- each mount in the names is of one of so many backends
+abbrev pub MountsAmong : ℕ → Tree → Type 0
+MountsAmong backends tree = (id : ℕ) (name : List ℕ) (backend : ℕ) → node_at tree id name ≡ Some (Mount backend) → backend < backends
+
+-- a backend has all its groups of files, and its names, which are sound, mount no other than so many
+pub record IsBackend (backends : ℕ) (backend : Backend) : Type 0 where
+  pub groups : length backend.groups ≡ group_count
+  pub sound : IsSound backend.names
+  pub mounts : MountsAmong backends backend.names
+
+pub record IsRunStore (store : Store) : Type 0 where
+  -- the root's backend is there
+  pub root : 0 < length store
+  pub each : (number : ℕ) (backend : Backend) → slice_get store number ≡ Some backend → IsBackend (length store) backend
+
+-- a step of that kind led from one store to another, and answered so
+abbrev pub IsNamesStep : Store → ℕ → NameOp → Store → NameAnswer → Type 0
+IsNamesStep old backend op new answer = names_step old backend op ≡ record { store = new; answer = NamesAnswer answer }
+
+abbrev pub IsFilesStep : Store → ℕ → ℕ → FileOp → Store → FileAnswer → Type 0
+IsFilesStep old backend group op new answer = files_step old backend group op ≡ record { store = new; answer = FilesAnswer answer }
+
+-- the backends of a trace: few enough for their numbers, and each is named as a directory may be
+pub record AreMountable (lines : List BackendLine) : Type 0 where
+  pub few : length lines < backends_max
+  pub names : list_all (λ (line : BackendLine). is_name line.name) lines ≡ true

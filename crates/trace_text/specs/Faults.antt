@@ -1,0 +1,183 @@
+-- The first faulty line of a trace: of each line the ordered list of its conditions, told over the lines before it.
+use Rattle.std.specs.Prelude.{ℕ, ◌+◌, ◌==◌, ◌||◌, not, nat_le, nat_lt, if◌then◌else◌, Bool, true, false, List, [], ◌∷◌, ◌++◌, length, count_by, codes, position, is_none, is_some, Option, None, Some}
+use Rattle.std.specs.List.{list_any, filter_map}
+use Rattle.wf_core.specs.Limits.{line_max, threads_max, backends_max, calls_max}
+use Rattle.wf_core.specs.Names.{is_text}
+use Rattle.path_walk.specs.declared.call.Call.{Call}
+use Rattle.trace_text.specs.declared.refusal.Fault.{Fault}
+use Rattle.trace_text.specs.declared.refusal.Fault.TheVariants.{Header, UnknownWord, BadArgument, UnknownName, DuplicateName, LineTooLong, TooManyCalls, TooManyThreads, TooManyBackends, MissingNewline}
+use Rattle.trace_text.specs.declared.refusal.Refusal.{Refusal}
+use Rattle.trace_text.specs.declared.trace.BackendLine.{BackendLine}
+use Rattle.trace_text.specs.declared.trace.Mode.{Mode}
+use Rattle.trace_text.specs.Fields.{pieces_of, fields_of, is_skipped, label_in}
+use Rattle.trace_text.specs.Words.{Form, form_of, call_in, name_in, backend_in}
+use Rattle.trace_text.specs.Grammar.{header}
+use Rattle.trace_text.specs.Refusals.{refusal_at}
+
+-- Lines.
+
+-- the bytes of a line, and whether byte 10 ends it
+pub record Line : Type 0 where
+  pub text : List ℕ
+  pub ended : Bool
+
+abbrev pub line_of : List ℕ → Bool → Line
+line_of text ended = record { text = text; ended = ended }
+
+-- where nothing follows the last byte 10, no line does
+abbrev pub lines_from : List (List ℕ) → List Line
+lines_from [] = []
+lines_from (rest ∷ []) = if length rest == 0 then [] else line_of rest false ∷ []
+lines_from (text ∷ next ∷ pieces) = line_of text true ∷ lines_from (next ∷ pieces)
+
+abbrev pub lines_of : List ℕ → List Line
+lines_of bytes = lines_from (pieces_of bytes)
+
+-- What lines without a fault have declared, and how many calls they make.
+
+-- a skipped line says nothing
+abbrev pub statement_of : List ℕ → List (List ℕ)
+statement_of text = if is_skipped text then [] else fields_of text
+
+abbrev pub thread_in : List (List ℕ) → Option (List ℕ)
+thread_in (word ∷ name ∷ []) = if is_text word (codes "thread") then Some name else None
+thread_in fields = None
+
+abbrev pub backend_name_in : List (List ℕ) → Option (List ℕ)
+backend_name_in (word ∷ name ∷ kind ∷ []) = if is_text word (codes "backend") then Some name else None
+backend_name_in fields = None
+
+abbrev pub is_call : List (List ℕ) → Bool
+is_call [] = false
+is_call (first ∷ fields) = is_some (label_in first)
+
+pub record Declarations : Type 0 where
+  pub threads : List (List ℕ)
+  pub backends : List (List ℕ)
+  pub calls : ℕ
+
+abbrev pub declarations : List (List ℕ) → Declarations
+declarations before = record {
+  threads = filter_map (λ text. thread_in (statement_of text)) before;
+  backends = filter_map (λ text. backend_name_in (statement_of text)) before;
+  calls = count_by (λ text. is_call (statement_of text)) before;
+}
+
+-- `main` is a name from the start
+abbrev pub has_name : Declarations → List ℕ → Bool
+has_name declarations name =
+    is_text name (codes "main")
+    || list_any (λ thread. is_text thread name) declarations.threads
+    || list_any (λ backend. is_text backend name) declarations.backends
+
+-- Conditions: each with the fault of a line of which it holds.
+
+pub record Condition : Type 0 where
+  pub fault : Fault
+  pub holds : Bool
+
+abbrev pub fault_where : Fault → Bool → Condition
+fault_where fault holds = record { fault = fault; holds = holds }
+
+-- the fault of the first condition that holds
+abbrev pub first_fault_of : List Condition → Option Fault
+first_fault_of [] = None
+first_fault_of (condition ∷ conditions) = if condition.holds then Some condition.fault else first_fault_of conditions
+
+abbrev pub has_name_in : Declarations → Option (List ℕ) → Bool
+has_name_in declarations None = false
+has_name_in declarations (Some name) = has_name declarations name
+
+-- of `thread`, by the fields behind it
+abbrev pub thread_conditions : Declarations → List (List ℕ) → List Condition
+thread_conditions declarations fields =
+    fault_where BadArgument (is_none (name_in fields))
+    ∷ fault_where DuplicateName (has_name_in declarations (name_in fields))
+    ∷ fault_where TooManyThreads (nat_le threads_max (length declarations.threads))
+    ∷ []
+
+abbrev pub backend_name : Option BackendLine → Option (List ℕ)
+backend_name None = None
+backend_name (Some backend) = Some backend.name
+
+-- of `backend`
+abbrev pub backend_conditions : Declarations → List (List ℕ) → List Condition
+backend_conditions declarations fields =
+    fault_where BadArgument (is_none (backend_in fields))
+    ∷ fault_where DuplicateName (has_name_in declarations (backend_name (backend_in fields)))
+    ∷ fault_where TooManyBackends (nat_le backends_max (length declarations.backends + 1))
+    ∷ []
+
+-- the form of the word in the fields behind a label, and the call that the fields make
+abbrev pub form_behind : Mode → List (List ℕ) → Option Form
+form_behind mode [] = None
+form_behind mode (word ∷ fields) = form_of mode word
+
+abbrev pub call_with_form : Option Form → List (List ℕ) → Option Call
+call_with_form None fields = None
+call_with_form (Some form) fields = call_in form fields
+
+abbrev pub call_behind_label : Mode → List (List ℕ) → Option Call
+call_behind_label mode [] = None
+call_behind_label mode (word ∷ fields) = call_with_form (form_of mode word) fields
+
+-- of a call of the thread of that name
+abbrev pub call_conditions : Mode → Declarations → List ℕ → List (List ℕ) → List Condition
+call_conditions mode declarations name fields =
+    fault_where UnknownName (is_none (position (λ thread. is_text thread name) declarations.threads))
+    ∷ fault_where UnknownWord (is_none (form_behind mode fields))
+    ∷ fault_where BadArgument (is_none (call_behind_label mode fields))
+    ∷ fault_where TooManyCalls (nat_le calls_max declarations.calls)
+    ∷ []
+
+abbrev pub declaration_conditions : Declarations → List ℕ → List (List ℕ) → List Condition
+declaration_conditions declarations word fields =
+    if is_text word (codes "thread") then thread_conditions declarations fields
+    else if is_text word (codes "backend") then backend_conditions declarations fields
+    else fault_where UnknownWord true ∷ []
+
+-- by what the first field is
+abbrev pub label_conditions : Mode → Declarations → Option (List ℕ) → List ℕ → List (List ℕ) → List Condition
+label_conditions mode declarations (Some name) first fields = call_conditions mode declarations name fields
+label_conditions mode declarations None first fields = declaration_conditions declarations first fields
+
+abbrev pub field_conditions : Mode → Declarations → List (List ℕ) → List Condition
+field_conditions mode declarations [] = fault_where UnknownWord true ∷ []
+field_conditions mode declarations (first ∷ fields) = label_conditions mode declarations (label_in first) first fields
+
+abbrev pub skipped_conditions : Bool → List Condition → List Condition
+skipped_conditions true conditions = []
+skipped_conditions false conditions = conditions
+
+-- of a line after line 1
+abbrev pub line_conditions : Mode → Declarations → Line → List Condition
+line_conditions mode declarations line =
+    fault_where MissingNewline (not line.ended)
+    ∷ fault_where LineTooLong (nat_lt line_max (length line.text))
+    ∷ skipped_conditions (is_skipped line.text) (field_conditions mode declarations (fields_of line.text))
+
+-- of line 1
+abbrev pub header_conditions : Line → List Condition
+header_conditions line =
+    fault_where MissingNewline (not line.ended)
+    ∷ fault_where LineTooLong (nat_lt line_max (length line.text))
+    ∷ fault_where Header (not (is_text line.text header))
+    ∷ []
+
+abbrev pub first_of : ℕ → Option Fault → Option Refusal → Option Refusal
+first_of number None others = others
+first_of number (Some fault) others = Some (refusal_at number fault)
+
+-- the first fault of the lines from line `number` on, where `before` are those after line 1 and before it
+abbrev pub fault_behind : Mode → ℕ → List (List ℕ) → List Line → Option Refusal
+fault_behind mode number before [] = None
+fault_behind mode number before (line ∷ lines) =
+    first_of number (first_fault_of (line_conditions mode (declarations before) line)) (fault_behind mode (number + 1) (before ++ line.text ∷ []) lines)
+
+-- a text without a line is `Header` in line 1
+abbrev pub fault_in : Mode → List Line → Option Refusal
+fault_in mode [] = Some (refusal_at 1 Header)
+fault_in mode (line ∷ lines) = first_of 1 (first_fault_of (header_conditions line)) (fault_behind mode 2 [] lines)
+
+abbrev pub first_fault : List ℕ → Mode → Option Refusal
+first_fault bytes mode = fault_in mode (lines_of bytes)

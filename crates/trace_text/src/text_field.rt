@@ -1,0 +1,108 @@
+ghost use Rattle.std.specs.Prelude.{◌≡◌, ◌<◌, ◌≢◌, IfOk, IfSome, Some, length, option_map};
+ghost use Rattle.std.specs.List.{list_all};
+ghost use Rattle.trace_text.specs.Fields.{bytes_in, escape_value, first_in, hex_value, is_plain, path_in, text_in, unless_nul};
+
+use std::alloc::{AllocError, Global};
+use wf_core::{PathRefusal, PathText};
+
+/// Whether a byte of a text field stands for itself.
+pub(crate) fn is_plain(byte: u8) -> bool
+    ensures { result ≡ is_plain byte }
+{
+    (33..=126).contains(&byte) && byte != b'%'
+}
+
+/// Whether each byte stands for itself.
+pub(crate) fn has_plain_bytes(field: &[u8]) -> bool
+    ensures { result ≡ list_all is_plain field.now }
+{
+    field.iter().all(|byte| is_plain(*byte))
+}
+
+/// The value of a hexadecimal digit of either case.
+fn hex_value(byte: u8) -> Option<u8>
+    ensures value { result ≡ hex_value byte }
+    ensures small { IfSome result (λ value. value < 16) }
+{
+    match byte {
+        b'0'..=b'9' => Some(byte - b'0'),
+        b'A'..=b'F' => Some(byte - b'A' + 10),
+        b'a'..=b'f' => Some(byte - b'a' + 10),
+        _ => None,
+    }
+}
+
+/// The byte that `%` and two digits stand for.
+fn escape_value(high: u8, low: u8) -> Option<u8>
+    ensures { result ≡ escape_value high low }
+{
+    let high = hex_value(high)?;
+    let low = hex_value(low)?;
+    Some(16 * high + low)
+}
+
+/// The first byte that a field stands for, and what is left of the field behind it.
+fn first_in(field: &[u8]) -> Option<(u8, &[u8])>
+    requires { length field.now ≢ 0 }
+    ensures value { bytes_in field.now ≡ first_in (option_map (λ x. (x.0, x.1.now)) result) }
+    ensures shorter { IfSome result (λ x. length x.1.now < length field.now) }
+{
+    match field {
+        [byte, rest @ ..] if is_plain(*byte) => Some((*byte, rest)),
+        [b'%', high, low, rest @ ..] => Some((escape_value(*high, *low)?, rest)),
+        _ => None,
+    }
+}
+
+/// The bytes that a row of plain bytes and escapes stands for.
+fn bytes_in(alloc: Global, field: &[u8]) -> Result<Option<Vec<u8>>, AllocError>
+    ensures { IfOk result (λ bytes. option_map (λ v. v.items) bytes ≡ bytes_in field.now) }
+{
+    let mut bytes = Vec::with_capacity(alloc, field.len())?;
+    let mut rest = field;
+    while !rest.is_empty() {
+        let Some((byte, left)) = first_in(rest) else {
+            return Ok(None);
+        };
+        bytes.push(byte)?;
+        rest = left;
+    }
+    Ok(Some(bytes))
+}
+
+/// What a text field stands for: `%_` alone for the empty text.
+fn text_in(alloc: Global, field: &[u8]) -> Result<Option<Vec<u8>>, AllocError>
+    ensures { IfOk result (λ text. option_map (λ v. v.items) text ≡ text_in field.now) }
+{
+    if field == b"%_".as_slice() {
+        return Ok(Some(Vec::new(alloc)));
+    }
+    if field.is_empty() {
+        return Ok(None);
+    }
+    bytes_in(alloc, field)
+}
+
+/// The path that bytes are, where none of them is 0.
+fn path_of(alloc: Global, text: &[u8]) -> Result<Option<PathText>, AllocError>
+    ensures { IfOk result (λ path. path ≡ unless_nul (Some text.now)) }
+{
+    match PathText::read(alloc, text) {
+        Ok(path) => Ok(Some(path)),
+        Err(PathRefusal::HasNul) => Ok(None),
+        Err(PathRefusal::NoMemory) => Err(AllocError),
+    }
+}
+
+/// The path or the link's text that a field stands for.
+pub(crate) fn path_in(alloc: Global, field: &[u8]) -> Result<Option<PathText>, AllocError>
+    ensures { IfOk result (λ path. path ≡ path_in field.now) }
+{
+    if !field.is_empty() && has_plain_bytes(field) {
+        return path_of(alloc, field);
+    }
+    match text_in(alloc, field)? {
+        Some(text) => path_of(alloc, text.as_slice()),
+        None => Ok(None),
+    }
+}
