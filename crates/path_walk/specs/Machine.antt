@@ -151,6 +151,11 @@ Reaches goal left (ReachedTurn turn) = Shows turn.need left turn.stage
 Reaches goal left (ReachedTrail trail) = (left ≡ walk_of trail (way_of trail)) × (walks_after trail.goal < walks_after goal)
 
 -- a trail that is followed until it asks for a step, or to its end
-abbrev pub Advances : Trail → Advance → Type 0
-Advances trail (Asks turn) = Shows turn.need (walk_of trail (way_of trail)) turn.stage
-Advances trail (Ends goal end) = (walk_of trail (way_of trail) ≡ goal_program goal end) × (goal ≡ trail.goal)
+abbrev pub Advances : Trail → Advance → Trail → Type 0
+Advances old (Asks need) new = Shows need (walk_of old (way_of old)) (Walking new)
+Advances old (Ends end) new = (walk_of old (way_of old) ≡ goal_program old.goal end) × (new.goal ≡ old.goal)
+
+-- what is left of the call where the walk that is under way ends
+abbrev pub left_at : Stage → Result End Errno → Program
+left_at (Walking trail) end = goal_program trail.goal end
+left_at stage end = finished Done

@@ -2,16 +2,16 @@ ghost use Rattle.std.specs.Prelude.{◌≡◌, IfOk, OnErr, None, Some};
 ghost use Rattle.path_walk.specs.Posix.{program};
 ghost use Rattle.path_walk.specs.Walk.{node_in};
 ghost use Rattle.path_walk.specs.Calls.{plan_after, program_of, reply_to, reply_to_files, reply_to_names, unlinked_by};
-ghost use Rattle.path_walk.specs.Machine.{Expects, IsWalking, Shows, fault_of, goal_of, new_route_of, resumed, route_of};
+ghost use Rattle.path_walk.specs.Machine.{Expects, IsWalking, Shows, fault_of, goal_of, left_at, new_route_of, resumed, route_of};
 ghost use Rattle.path_walk.specs.declared.trail.Stage.{Stage};
 ghost use Rattle.path_walk.specs.declared.trail.Stage.TheVariants.{Start};
 
 use crate::call::{Call, Need, Reply};
 use crate::goal::{Change, Goal, step_on_file, text_fault};
 use crate::part::Part;
-use crate::route::{Manner, Route};
+use crate::route::{End, Manner, Route};
 use crate::step::{StepAnswer, StoreAnswer};
-use crate::trail::{Onward, Stage, Trail, Turn, fault, over};
+use crate::trail::{Advance, Onward, Stage, Trail, Turn, fault, over};
 use file_store::{FileAnswer, FileOp};
 use name_store::{NameAnswer, Node};
 use std::alloc::{AllocError, Global};
@@ -50,17 +50,15 @@ impl CallMachine {
         ensures ok { IfOk result (λ need. Shows need (resumed self.old answer) self.new) }
         ensures err { OnErr result (self.new ≡ self.old) }
     {
-        let turn = match answer {
-            None => self.begin()?,
-            Some(answer) => self.resume(answer)?,
-        };
-        self.stage = turn.stage;
-        Ok(turn.need)
+        match answer {
+            None => self.begin(),
+            Some(answer) => self.resume(answer),
+        }
     }
 
-    fn begin(&mut self) -> Result<Turn, AllocError>
+    fn begin(&mut self) -> Result<Need, AllocError>
         requires { Expects self.old None }
-        ensures ok { IfOk result (λ turn. Shows turn.need (resumed self.old None) turn.stage) }
+        ensures ok { IfOk result (λ need. Shows need (resumed self.old None) self.new) }
         ensures err { OnErr result (self.new ≡ self.old) }
     {
         let Stage::Start(call) = &self.stage else {
@@ -69,42 +67,60 @@ impl CallMachine {
         let route = route_of(self.alloc, call)?;
         let new = new_route_of(self.alloc, call)?;
         match mem::replace(&mut self.stage, Stage::Over) {
-            Stage::Start(call) => Ok(begin(call, route, new)),
+            Stage::Start(call) => Ok(self.take(begin(call, route, new))),
             _ => unreachable!(),
         }
     }
 
-    fn resume(&mut self, answer: StepAnswer) -> Result<Turn, AllocError>
+    fn take(&mut self, turn: Turn) -> Need
+        ensures { (self.new ≡ turn.stage) × (result ≡ turn.need) }
+    {
+        self.stage = turn.stage;
+        turn.need
+    }
+
+    fn resume(&mut self, answer: StepAnswer) -> Result<Need, AllocError>
         requires { Expects self.old (Some answer) }
-        ensures ok { IfOk result
-            (λ turn. Shows turn.need (resumed self.old (Some answer)) turn.stage) }
+        ensures ok { IfOk result (λ need. Shows need (resumed self.old (Some answer)) self.new) }
         ensures err { OnErr result (self.new ≡ self.old) }
     {
         match &self.stage {
             Stage::Walking(_) => self.walk_on(answer),
-            Stage::LastOnNames(backend) => Ok(after_names(*backend, answer)),
-            Stage::LastOnFiles => Ok(over(reply_to(answer))),
+            Stage::LastOnNames(backend) => {
+                let turn = after_names(*backend, answer);
+                Ok(self.take(turn))
+            }
+            Stage::LastOnFiles => Ok(self.take(over(reply_to(answer)))),
             _ => unreachable!(),
         }
     }
 
-    fn walk_on(&mut self, answer: StepAnswer) -> Result<Turn, AllocError>
+    /// Goes on along the trail, where it stands: it is moved at its end alone.
+    fn walk_on(&mut self, answer: StepAnswer) -> Result<Need, AllocError>
         requires { IsWalking self.old }
-        ensures ok { IfOk result
-            (λ turn. Shows turn.need (resumed self.old (Some answer)) turn.stage) }
+        ensures ok { IfOk result (λ need. Shows need (resumed self.old (Some answer)) self.new) }
         ensures err { OnErr result (self.new ≡ self.old) }
     {
-        let mut trail = match mem::replace(&mut self.stage, Stage::Over) {
-            Stage::Walking(trail) => trail,
-            _ => unreachable!(),
+        let Stage::Walking(trail) = &mut self.stage else {
+            unreachable!();
         };
-        match trail.meet(self.alloc, node_in(answer)) {
-            Ok(Onward::Goes) => Ok(trail.proceed()),
-            Ok(Onward::Ends(end)) => Ok(trail.finish(end)),
-            Err(error) => {
-                self.stage = Stage::Walking(trail);
-                Err(error)
-            }
+        let end = match trail.meet(self.alloc, node_in(answer))? {
+            Onward::Ends(end) => end,
+            Onward::Goes => match trail.advance() {
+                Advance::Asks(need) => return Ok(need),
+                Advance::Ends(end) => end,
+            },
+        };
+        Ok(self.finish(end))
+    }
+
+    fn finish(&mut self, end: Result<End, Errno>) -> Need
+        requires { IsWalking self.old }
+        ensures { Shows result (left_at self.old end) self.new }
+    {
+        match mem::replace(&mut self.stage, Stage::Over) {
+            Stage::Walking(trail) => self.take(trail.finish(end)),
+            _ => unreachable!(),
         }
     }
 }

@@ -45,11 +45,12 @@ pub(crate) struct Turn {
     pub(crate) need: Need,
 }
 
-/// A trail that was followed as far as it goes without an answer.
+/// What a trail comes to without an answer.
 #[derive(Drop)]
 pub(crate) enum Advance {
-    Asks(Turn),
-    Ends(Goal, Result<End, Errno>),
+    /// It asks for a step, and waits for its answer.
+    Asks(Need),
+    Ends(Result<End, Errno>),
 }
 
 /// What stands under a name ends the walk, or has it go on.
@@ -75,13 +76,16 @@ pub(crate) fn fault(errno: Errno) -> Turn
     over(Reply::Fault(errno))
 }
 
+fn turn_of(stage: Stage, need: Need) -> Turn
+    ensures { (result.stage ≡ stage) × (result.need ≡ need) }
+{
+    Turn { stage, need }
+}
+
 pub(crate) fn step(stage: Stage, cell: CellId, op: StoreOp) -> Turn
     ensures { (result.stage ≡ stage) × (result.need ≡ Need.Step cell op) }
 {
-    Turn {
-        stage,
-        need: Need::Step(cell, op),
-    }
+    turn_of(stage, Need::Step(cell, op))
 }
 
 impl Trail {
@@ -106,11 +110,11 @@ impl Trail {
     {
         let mut trail = self;
         loop {
-            let reached = match trail.advance() {
-                Advance::Asks(turn) => return turn,
-                Advance::Ends(goal, end) => goal.reach(end),
+            let end = match trail.advance() {
+                Advance::Asks(need) => return turn_of(Stage::Walking(trail), need),
+                Advance::Ends(end) => end,
             };
-            match reached {
+            match trail.goal.reach(end) {
                 Reached::Turn(turn) => return turn,
                 Reached::Trail(next) => trail = next,
             }
@@ -128,14 +132,14 @@ impl Trail {
     }
 
     /// Follows the trail until it asks for a step, or to its end.
-    fn advance(mut self) -> Advance
-        ensures { Advances self result }
+    pub(crate) fn advance(&mut self) -> Advance
+        ensures { Advances self.old result self.new }
     {
         while let Some(part) = self.rest.next() {
             match part {
                 Part::Here => {}
-                Part::TooLong => return self.end(Err(Errno::Enametoolong)),
-                _ if self.names == 0 => return self.end(Err(Errno::Enametoolong)),
+                Part::TooLong => return Advance::Ends(Err(Errno::Enametoolong)),
+                _ if self.names == 0 => return Advance::Ends(Err(Errno::Enametoolong)),
                 Part::Up if self.spot.directory == 0 => {
                     self.names -= 1;
                     self.spot = Spot::root_of(0);
@@ -147,35 +151,27 @@ impl Trail {
                 }
             }
         }
-        let end = End::Directory(self.names, self.spot);
-        self.end(Ok(end))
-    }
-
-    fn end(self, end: Result<End, Errno>) -> Advance
-        ensures { result ≡ Advance.Ends self.goal end }
-    {
-        Advance::Ends(self.goal, end)
+        Advance::Ends(Ok(End::Directory(self.names, self.spot)))
     }
 
     /// Asks for the parent of its directory, which is no root.
-    fn ask_parent(self) -> Turn
-        requires some { (self.names == 0) ≡ false }
-        requires above { (self.spot.directory == 0) ≡ false }
-        ensures { Shows result.need (walk_of self (way_up self)) result.stage }
+    fn ask_parent(&mut self) -> Need
+        requires some { (self.old.names == 0) ≡ false }
+        requires above { (self.old.spot.directory == 0) ≡ false }
+        ensures { Shows result (walk_of self.old (way_up self.old)) (Stage.Walking self.new) }
     {
         let parent = NameOp::Parent(self.spot.dir());
         self.ask(parent)
     }
 
     /// Asks for a step on the names of its backend, which takes one name.
-    fn ask(mut self, op: NameOp) -> Turn
-        requires { 0 < self.names }
-        ensures { (result.stage ≡ Stage.Walking (with_one_name_less self))
-            × (result.need ≡ Need.Step (CellId.Names self.spot.backend) (StoreOp.Names op)) }
+    fn ask(&mut self, op: NameOp) -> Need
+        requires { 0 < self.old.names }
+        ensures { (self.new ≡ with_one_name_less self.old)
+            × (result ≡ Need.Step (CellId.Names self.old.spot.backend) (StoreOp.Names op)) }
     {
         self.names -= 1;
-        let cell = self.spot.cell();
-        step(Stage::Walking(self), cell, StoreOp::Names(op))
+        Need::Step(self.spot.cell(), StoreOp::Names(op))
     }
 
     /// Meets what an answer found. Want of memory changes nothing.
