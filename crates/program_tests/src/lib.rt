@@ -5,3 +5,5 @@
 mod solo;
 #[cfg(test)]
 mod texts;
+#[cfg(test)]
+mod traces;

@@ -1,129 +1,150 @@
-use name_store::TreeLine;
-use path_walk::{Call, Reply};
+use name_store::{NameAnswer, NameOp, NameTree, TreeLine};
+use path_walk::Reply;
+use std::alloc::Global;
 use std::test::*;
-use trace_text::{
-    TraceRefusal, push_end_line, push_reply_line, push_tree_line, read_trace, refusal_line,
-};
-use wf_core::{Errno, Text};
+use trace_text::{Fault, Refusal, push_end_line, push_reply_line, push_tree_line, refusal_line};
+use wf_core::{BackendId, DirId, Errno, FileId, Name, PathText, Text};
+
+fn path_text(alloc: Global, bytes: &[u8]) -> Result<PathText, Fail> {
+    Ok(PathText::read(alloc, bytes).ok().ok_or("it has no byte 0")?)
+}
+
+/// Replies, but for names, and their texts.
+fn replies(alloc: Global) -> Result<Vec<(Reply, &'static str)>, Fail> {
+    let mut replies = Vec::new(alloc);
+    replies.push((Reply::Done, "ok"))?;
+    replies.push((Reply::Dir, "ok dir"))?;
+    replies.push((Reply::File(0), "ok file 0"))?;
+    replies.push((Reply::File(16_777_216), "ok file 16777216"))?;
+    replies.push((Reply::Link(255), "ok link 255"))?;
+    replies.push((Reply::Text(path_text(alloc, b"../a")?), "ok ../a"))?;
+    replies.push((Reply::Text(path_text(alloc, b"")?), "ok %_"))?;
+    replies.push((
+        Reply::Text(path_text(alloc, b"A ~!%\x7f\xff\n")?),
+        "ok A%20~!%25%7F%FF%0A",
+    ))?;
+    replies.push((Reply::Text(path_text(alloc, b"%_")?), "ok %25_"))?;
+    replies.push((Reply::Fault(Errno::Eexist), "EEXIST"))?;
+    replies.push((Reply::Fault(Errno::Enametoolong), "ENAMETOOLONG"))?;
+    Ok(replies)
+}
 
 #[test]
-fn a_trace_is_read(rt: HostRuntime) -> Result<(), Fail> {
-    let bytes = b"wasmfs-trace 1\nthread A\nA: mkdir /a\nA: stat /a\n";
-    let trace = read_trace(rt.alloc(), bytes).ok().ok_or("it is a trace")?;
-    assert_eq!(rt; trace.threads.len(), 1);
-    for name in &trace.threads {
-        assert_eq!(rt; name.as_bytes(), b"A".as_slice());
-    }
-    assert_eq!(rt; trace.calls.len(), 2);
-    for (line, number) in trace.calls.iter().zip([1, 2]) {
-        assert_eq!(rt; line.thread, 0);
-        assert_eq!(rt; line.number, number);
-        match &line.call {
-            Call::Mkdir(path) => assert_eq!(rt; (number, path.as_bytes()), (1, b"/a".as_slice())),
-            Call::Stat(path) => assert_eq!(rt; (number, path.as_bytes()), (2, b"/a".as_slice())),
-        }
+fn replies_are_printed(rt: HostRuntime) -> Result<(), Fail> {
+    let alloc = rt.alloc();
+    for (reply, text) in &replies(alloc)? {
+        let mut out = Vec::from_slice(alloc, b"before\n")?;
+        push_reply_line(&mut out, b"main_2", 8_192, reply)?;
+        let due = format!(in alloc; "before\nreply main_2 8192 {text}\n")?;
+        assert_eq!(rt; out.as_slice(), due.as_bytes());
     }
     Ok(())
 }
 
-/// Why the text is refused, if it is.
-fn refusal_of(rt: &HostRuntime, head: &str, rest: &str) -> Result<Option<TraceRefusal>, Fail> {
-    let text = format!(in rt.alloc(); "{head}{rest}")?;
-    Ok(read_trace(rt.alloc(), text.as_bytes()).err())
+/// The names of a directory with these entries.
+fn names_of(alloc: Global, names: &[&[u8]]) -> Result<Reply, Fail> {
+    let mut tree = NameTree::new(alloc, Vec::new(alloc))?;
+    for name in names {
+        let name = Name::read(alloc, name).ok().ok_or("it is a name")?;
+        tree.apply(&NameOp::Makedir(DirId::ROOT, name))?;
+    }
+    let list = NameOp::List {
+        directory: DirId::ROOT,
+        start: 0,
+    };
+    match tree.apply(&list)? {
+        NameAnswer::Names(names) => Ok(Reply::Names(names)),
+        _ => Err("it is a list")?,
+    }
 }
 
 #[test]
-fn the_first_fault_of_the_first_lines_is_told(rt: HostRuntime) -> Result<(), Fail> {
-    let heads = [
-        ("", Some(TraceRefusal::Header(1))),
-        ("wasmfs-trace 1", Some(TraceRefusal::Header(1))),
-        ("wasmfs-trace 2\n", Some(TraceRefusal::Header(1))),
-        ("wasmfs-trace 1\n", None),
+fn names_are_printed(rt: HostRuntime) -> Result<(), Fail> {
+    let alloc = rt.alloc();
+    let lists: [(&[&[u8]], &str); 3] = [
+        (&[], "reply A 1 ok\n"),
+        (&[b"m", b"a"], "reply A 1 ok a m\n"),
+        // in the order of the bytes, not of their escapes
+        (&[b"%", b"\x01", b"~"], "reply A 1 ok %01 %25 ~\n"),
     ];
-    for (text, refusal) in heads {
-        assert_eq!(rt; refusal_of(&rt, "", text)?, refusal, "at {text}");
-    }
-    let threads = [
-        ("thread\n", Some(TraceRefusal::BadArgument(2))),
-        ("thread A", Some(TraceRefusal::BadArgument(2))),
-        ("\n", Some(TraceRefusal::UnknownWord(2))),
-        ("threads A\n", Some(TraceRefusal::UnknownWord(2))),
-        ("thread  A\n", Some(TraceRefusal::BadArgument(2))),
-        ("thread A \n", Some(TraceRefusal::BadArgument(2))),
-        ("thread Abcdefgh_1234567\n", None),
-        (
-            "thread Abcdefgh_12345678\n",
-            Some(TraceRefusal::BadArgument(2)),
-        ),
-        ("thread A-B\n", Some(TraceRefusal::BadArgument(2))),
-    ];
-    for (rest, refusal) in threads {
-        assert_eq!(rt;
-            refusal_of(&rt, "wasmfs-trace 1\n", rest)?,
-            refusal,
-            "at {rest}"
-        );
-    }
-    Ok(())
-}
-
-#[test]
-fn the_first_fault_of_a_call_is_told(rt: HostRuntime) -> Result<(), Fail> {
-    let calls = [
-        ("B: mkdir /a\n", Some(TraceRefusal::UnknownWord(3))),
-        ("A: chmod /a\n", Some(TraceRefusal::UnknownWord(3))),
-        ("A:\n", Some(TraceRefusal::UnknownWord(3))),
-        ("A: \n", Some(TraceRefusal::UnknownWord(3))),
-        ("A:  mkdir /a\n", Some(TraceRefusal::UnknownWord(3))),
-        ("A: mkdir\n", Some(TraceRefusal::BadArgument(3))),
-        ("A: mkdir \n", Some(TraceRefusal::BadArgument(3))),
-        ("A: mkdir /a /b\n", Some(TraceRefusal::BadArgument(3))),
-        ("A: mkdir /a%20\n", Some(TraceRefusal::BadArgument(3))),
-        ("A: mkdir /a", Some(TraceRefusal::BadArgument(3))),
-        ("A: chmod", Some(TraceRefusal::UnknownWord(3))),
-        ("A: mkdir /a\n\n", Some(TraceRefusal::UnknownWord(4))),
-        ("A: mkdir /\x7f\n", Some(TraceRefusal::BadArgument(3))),
-        ("A: mkdir /\x1f\n", Some(TraceRefusal::BadArgument(3))),
-        ("A: mkdir !\n", None),
-        ("A: mkdir ~\n", None),
-    ];
-    for (rest, refusal) in calls {
-        assert_eq!(rt;
-            refusal_of(&rt, "wasmfs-trace 1\nthread A\n", rest)?,
-            refusal,
-            "at {rest}"
-        );
+    for (names, due) in lists {
+        let reply = names_of(alloc, names)?;
+        let mut out = Vec::new(alloc);
+        push_reply_line(&mut out, b"A", 1, &reply)?;
+        assert_eq!(rt; out.as_slice(), due.as_bytes());
     }
     Ok(())
 }
 
 #[test]
-fn a_text_is_printed(rt: HostRuntime) -> Result<(), Fail> {
-    let mut text = Vec::new(rt.alloc());
-    push_reply_line(&mut text, b"A", 1, Reply::Done)?;
-    push_reply_line(&mut text, b"A", 2, Reply::Dir)?;
-    push_reply_line(&mut text, b"A", 10, Reply::Fault(Errno::Eexist))?;
-    let name = Text::read(rt.alloc(), b"usr")?;
-    push_tree_line(&mut text, &TreeLine::Dir { depth: 1, name })?;
-    push_end_line(&mut text)?;
-    let printed = b"reply A 1 ok\nreply A 2 ok dir\nreply A 10 EEXIST\ndir 1 usr\nend\n";
-    assert_eq!(rt; text.as_slice(), printed.as_slice());
+fn tree_lines_are_printed(rt: HostRuntime) -> Result<(), Fail> {
+    let alloc = rt.alloc();
+    let mut out = Vec::new(alloc);
+    let name = Text::read(alloc, b"/")?;
+    push_tree_line(&mut out, 0, &TreeLine::Dir { depth: 0, name })?;
+    let name = Text::read(alloc, b"m")?;
+    let backend = BackendId::new(1);
+    push_tree_line(
+        &mut out,
+        0,
+        &TreeLine::Mount {
+            depth: 1,
+            name,
+            backend,
+        },
+    )?;
+    let name = Text::read(alloc, b"a b")?;
+    push_tree_line(&mut out, 1, &TreeLine::Dir { depth: 1, name })?;
+    let name = Text::read(alloc, b"l")?;
+    let text = Text::read(alloc, b"\xc3\xa4")?;
+    push_tree_line(
+        &mut out,
+        1,
+        &TreeLine::Link {
+            depth: 2,
+            name,
+            text,
+        },
+    )?;
+    let name = Text::read(alloc, b"f")?;
+    let file = FileId::new(4);
+    push_tree_line(
+        &mut out,
+        4_294_967_295,
+        &TreeLine::File {
+            depth: 4_294_967_295,
+            name,
+            file,
+        },
+    )?;
+    push_end_line(&mut out)?;
+    let due = "dir 0 /\ndir 1 m\ndir 2 a%20b\nlink 3 l %C3%A4\nfile 8589934590 f 0\nend\n";
+    assert_eq!(rt; out.as_slice(), due.as_bytes());
     Ok(())
 }
 
+const REFUSALS: [(u64, Fault, &str); 10] = [
+    (1, Fault::Header, "line 1: Header\n"),
+    (2, Fault::UnknownWord, "line 2: UnknownWord\n"),
+    (10, Fault::BadArgument, "line 10: BadArgument\n"),
+    (3, Fault::UnknownName, "line 3: UnknownName\n"),
+    (4, Fault::DuplicateName, "line 4: DuplicateName\n"),
+    (5, Fault::LineTooLong, "line 5: LineTooLong\n"),
+    (8_195, Fault::TooManyCalls, "line 8195: TooManyCalls\n"),
+    (18, Fault::TooManyThreads, "line 18: TooManyThreads\n"),
+    (9, Fault::TooManyBackends, "line 9: TooManyBackends\n"),
+    (
+        16_777_216,
+        Fault::MissingNewline,
+        "line 16777216: MissingNewline\n",
+    ),
+];
+
 #[test]
-fn a_refusal_is_printed(rt: HostRuntime) -> Result<(), Fail> {
-    let lines = [
-        (TraceRefusal::Header(1), "line 1: Header\n"),
-        (TraceRefusal::UnknownWord(4), "line 4: UnknownWord\n"),
-        (TraceRefusal::BadArgument(12), "line 12: BadArgument\n"),
-        (TraceRefusal::NoMemory, ""),
-    ];
-    for (refusal, line) in lines {
-        assert_eq!(rt;
-            refusal_line(rt.alloc(), &refusal)?.as_slice(),
-            line.as_bytes()
-        );
+fn refusals_are_printed(rt: HostRuntime) -> Result<(), Fail> {
+    for (line, fault, due) in REFUSALS {
+        let text = refusal_line(rt.alloc(), Refusal { line, fault })?;
+        assert_eq!(rt; text.as_slice(), due.as_bytes());
     }
     Ok(())
 }

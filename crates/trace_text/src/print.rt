@@ -6,15 +6,19 @@ ghost use Rattle.trace_text.specs.Texts.{end_line, named_text, next_field, refus
 
 use crate::refusal::Refusal;
 use crate::text_field::{has_plain_bytes, is_plain};
+use itoa::Buffer;
 use name_store::{NameList, TreeLine};
 use path_walk::Reply;
 use std::alloc::{AllocError, Global};
 
+/// The room with which a line begins, more than most lines need.
+const LINE_ROOM: usize = 64;
+
 fn append_number(line: &mut Vec<u8>, number: u64) -> Result<(), AllocError>
     ensures { OnOk result (line.new.items ≡ line.old.items ++ decimal number) }
 {
-    let alloc = *line.allocator();
-    line.extend_from_slice(format!(in alloc; "{number}")?.as_bytes())
+    let mut digits = Buffer::new();
+    line.extend_from_slice(digits.format(number).as_bytes())
 }
 
 /// A digit of upper case.
@@ -113,7 +117,8 @@ fn line_of_reply(
 ) -> Result<Vec<u8>, AllocError>
     ensures { IfOk result (λ line. line.items ≡ reply_line thread.now number reply.now) }
 {
-    let mut line = Vec::from_slice(alloc, b"reply ")?;
+    let mut line = Vec::with_capacity(alloc, LINE_ROOM)?;
+    line.extend_from_slice(b"reply ")?;
     line.extend_from_slice(thread)?;
     line.push(b' ')?;
     append_number(&mut line, u64::from(number))?;
@@ -138,10 +143,13 @@ pub fn push_reply_line(
     out.extend_from_slice(line.as_slice())
 }
 
-fn named_text(alloc: Global, word: &str, depth: u64, name: &[u8]) -> Result<Vec<u8>, AllocError>
+fn named_text(alloc: Global, word: &[u8], depth: u64, name: &[u8]) -> Result<Vec<u8>, AllocError>
     ensures { IfOk result (λ text. text.items ≡ named_text word.now depth name.now) }
 {
-    let mut text = format!(in alloc; "{word} {depth}")?.into_bytes();
+    let mut text = Vec::with_capacity(alloc, LINE_ROOM)?;
+    text.extend_from_slice(word)?;
+    text.push(b' ')?;
+    append_number(&mut text, depth)?;
     append_field(&mut text, name)?;
     Ok(text)
 }
@@ -153,19 +161,19 @@ fn tree_text(alloc: Global, deeper: u32, line: &TreeLine) -> Result<Vec<u8>, All
     match line {
         TreeLine::Dir { depth, name } | TreeLine::Mount { depth, name, .. } => {
             let depth = u64::from(deeper) + u64::from(*depth);
-            let mut text = named_text(alloc, "dir", depth, name.as_bytes())?;
+            let mut text = named_text(alloc, b"dir", depth, name.as_bytes())?;
             text.push(b'\n')?;
             Ok(text)
         }
         TreeLine::File { depth, name, .. } => {
             let depth = u64::from(deeper) + u64::from(*depth);
-            let mut text = named_text(alloc, "file", depth, name.as_bytes())?;
+            let mut text = named_text(alloc, b"file", depth, name.as_bytes())?;
             text.extend_from_slice(b" 0\n")?;
             Ok(text)
         }
         TreeLine::Link { depth, name, text } => {
             let depth = u64::from(deeper) + u64::from(*depth);
-            let mut line = named_text(alloc, "link", depth, name.as_bytes())?;
+            let mut line = named_text(alloc, b"link", depth, name.as_bytes())?;
             append_field(&mut line, text.as_bytes())?;
             line.push(b'\n')?;
             Ok(line)
