@@ -61,7 +61,7 @@ impl Parts {
         ensures { IfOk result (λ parts. parts ≡ parts_of path.now) }
     {
         let pieces = components_of(alloc, path.as_bytes())?;
-        let mut parts = VecDeque::new(alloc);
+        let mut parts = VecDeque::with_capacity(alloc, pieces.len())?;
         for piece in pieces.as_slice() {
             parts.push_back(Part::read(alloc, piece)?)?;
         }
