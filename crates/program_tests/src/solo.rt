@@ -3,6 +3,7 @@ use std::alloc::{AllocError, Global};
 use std::test::Fail;
 use wf_core::{MemSink, MemSource, RunStatus, StdSink, StdSource};
 
+mod calls;
 mod faults;
 mod walks;
 
@@ -17,7 +18,7 @@ fn solo_words(alloc: Global) -> Result<Vec<String>, AllocError> {
 fn run_on(alloc: Global, input: &[u8]) -> Result<(RunStatus, MemSink), AllocError> {
     let words = solo_words(alloc)?;
     let mut src = MemSource::new(Vec::from_slice(alloc, input)?, 4096, Vec::new(alloc));
-    let mut out = MemSink::new(alloc, 65536, 4096, Vec::new(alloc))?;
+    let mut out = MemSink::new(alloc, 1_048_576, 4096, Vec::new(alloc))?;
     let status = solo(alloc, words.as_slice(), &mut src, &mut out);
     Ok((status, out))
 }
@@ -33,19 +34,29 @@ fn short_inputs(rt: HostRuntime) -> Result<(), Fail> {
             "dir 0 /\nend\n",
         ),
         (
-            "wasmfs-trace 1\nthread main\nmain: stat /\n",
-            RunStatus::Done,
-            "reply main 1 ok dir\ndir 0 /\nend\n",
+            "wasmfs-trace 1\nthread A",
+            RunStatus::Refused,
+            "line 2: MissingNewline\n",
+        ),
+        (
+            "wasmfs-trace 1\nthread main\n",
+            RunStatus::Refused,
+            "line 2: DuplicateName\n",
         ),
         (
             "wasmfs-trace 1\nthread A\nB: stat /\n",
             RunStatus::Refused,
-            "line 3: UnknownWord\n",
+            "line 3: UnknownName\n",
         ),
         (
-            "wasmfs-trace 1\nthread A\nA: stat %2F\n",
-            RunStatus::Refused,
-            "line 3: BadArgument\n",
+            "wasmfs-trace 1\nthread A\nA: stat %2f\n",
+            RunStatus::Done,
+            "reply A 1 ok dir\ndir 0 /\nend\n",
+        ),
+        (
+            "wasmfs-trace 1\nthread A\nthread B\n\n#\nB: mkdir /b\nA: stat /b\nB: stat /c\n",
+            RunStatus::Done,
+            "reply B 1 ok\nreply A 1 ok dir\nreply B 2 ENOENT\ndir 0 /\ndir 1 b\nend\n",
         ),
     ];
     for (input, status, text) in cases {

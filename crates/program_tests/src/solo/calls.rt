@@ -1,0 +1,83 @@
+//! Calls of one thread and the reply to each, in the words of the formats, worked out by hand from the calls' tables.
+
+use super::run_on;
+use std::alloc::{AllocError, Global};
+use std::process::Abort;
+use std::test::Fail;
+use wf_core::RunStatus;
+
+mod ends;
+mod entries;
+mod limits;
+mod links;
+mod mounts;
+mod moves;
+
+/// The lines of a run, and the reply lines that are due.
+#[derive(Drop)]
+struct Script {
+    input: String,
+    due: String,
+    count: u32,
+}
+
+impl Script {
+    fn new(alloc: Global, declarations: &str) -> Result<Script, AllocError> {
+        Ok(Script {
+            input: format!(in alloc; "wasmfs-trace 1\n{declarations}thread A\n")?,
+            due: String::new(alloc),
+            count: 0,
+        })
+    }
+
+    fn add(&mut self, alloc: Global, call: &str, reply: &str) -> Result<(), AllocError> {
+        self.count = self.count.saturating_add(1);
+        let number = self.count;
+        self.input.push_str(&format!(in alloc; "A: {call}\n")?)?;
+        self.due
+            .push_str(&format!(in alloc; "reply A {number} {reply}\n")?)
+    }
+
+    /// Runs the calls and compares the reply to each.
+    fn run(self, rt: &impl Abort, alloc: Global) -> Result<(), AllocError> {
+        let (status, out) = run_on(alloc, self.input.as_bytes())?;
+        assert_eq!(rt; status, RunStatus::Done);
+        let lines = out.as_bytes().split(|byte| *byte == b'\n');
+        let due = self.due.as_bytes().split(|byte| *byte == b'\n');
+        for (line, due) in lines.zip(due) {
+            assert!(rt; line == due || due.is_empty(), "{line:?} and not {due:?}");
+        }
+        assert!(rt; out.as_bytes().len() > self.due.len());
+        Ok(())
+    }
+}
+
+/// Runs calls behind declarations, and compares the reply to each.
+fn expect(
+    rt: &impl Abort,
+    alloc: Global,
+    declarations: &str,
+    cases: &[(&str, &str)],
+) -> Result<(), AllocError> {
+    let mut script = Script::new(alloc, declarations)?;
+    for (call, reply) in cases {
+        script.add(alloc, call, reply)?;
+    }
+    script.run(rt, alloc)
+}
+
+/// A text with one piece of it repeated.
+fn repeated(
+    alloc: Global,
+    head: &str,
+    piece: &str,
+    count: u32,
+    tail: &str,
+) -> Result<String, AllocError> {
+    let mut text = String::from_str(alloc, head)?;
+    for _ in 0..count {
+        text.push_str(piece)?;
+    }
+    text.push_str(tail)?;
+    Ok(text)
+}
