@@ -76,47 +76,41 @@ fn names_are_printed(rt: HostRuntime) -> Result<(), Fail> {
     Ok(())
 }
 
+/// The lines of a tree, each with the depth of the mount that it stands in.
+fn tree_lines(alloc: Global) -> Result<Vec<(u32, TreeLine)>, Fail> {
+    let mut lines = Vec::new(alloc);
+    let name = Text::read(alloc, b"/")?;
+    lines.push((0, TreeLine::Dir { depth: 0, name }))?;
+    let line = TreeLine::Mount {
+        depth: 1,
+        name: Text::read(alloc, b"m")?,
+        backend: BackendId::new(1),
+    };
+    lines.push((0, line))?;
+    let name = Text::read(alloc, b"a b")?;
+    lines.push((1, TreeLine::Dir { depth: 1, name }))?;
+    let line = TreeLine::Link {
+        depth: 2,
+        name: Text::read(alloc, b"l")?,
+        text: Text::read(alloc, b"\xc3\xa4")?,
+    };
+    lines.push((1, line))?;
+    let line = TreeLine::File {
+        depth: 4_294_967_295,
+        name: Text::read(alloc, b"f")?,
+        file: FileId::new(4),
+    };
+    lines.push((4_294_967_295, line))?;
+    Ok(lines)
+}
+
 #[test]
 fn tree_lines_are_printed(rt: HostRuntime) -> Result<(), Fail> {
     let alloc = rt.alloc();
     let mut out = Vec::new(alloc);
-    let name = Text::read(alloc, b"/")?;
-    push_tree_line(&mut out, 0, &TreeLine::Dir { depth: 0, name })?;
-    let name = Text::read(alloc, b"m")?;
-    let backend = BackendId::new(1);
-    push_tree_line(
-        &mut out,
-        0,
-        &TreeLine::Mount {
-            depth: 1,
-            name,
-            backend,
-        },
-    )?;
-    let name = Text::read(alloc, b"a b")?;
-    push_tree_line(&mut out, 1, &TreeLine::Dir { depth: 1, name })?;
-    let name = Text::read(alloc, b"l")?;
-    let text = Text::read(alloc, b"\xc3\xa4")?;
-    push_tree_line(
-        &mut out,
-        1,
-        &TreeLine::Link {
-            depth: 2,
-            name,
-            text,
-        },
-    )?;
-    let name = Text::read(alloc, b"f")?;
-    let file = FileId::new(4);
-    push_tree_line(
-        &mut out,
-        4_294_967_295,
-        &TreeLine::File {
-            depth: 4_294_967_295,
-            name,
-            file,
-        },
-    )?;
+    for (deeper, line) in &tree_lines(alloc)? {
+        push_tree_line(&mut out, *deeper, line)?;
+    }
     push_end_line(&mut out)?;
     let due = "dir 0 /\ndir 1 m\ndir 2 a%20b\nlink 3 l %C3%A4\nfile 8589934590 f 0\nend\n";
     assert_eq!(rt; out.as_slice(), due.as_bytes());

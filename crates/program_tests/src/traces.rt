@@ -350,9 +350,8 @@ fn lines_have_their_limit(rt: HostRuntime) -> Result<(), Fail> {
     let alloc = rt.alloc();
     for (index, (front, length, end, fault)) in LENGTHS.iter().enumerate() {
         let mut bytes = headed(alloc, b"thread A\n")?;
-        let whole = bytes.len().saturating_add(*length);
         bytes.extend_from_slice(front)?;
-        while bytes.len() < whole {
+        for _ in front.len()..*length {
             bytes.push(b'x')?;
         }
         bytes.extend_from_slice(end)?;

@@ -12,10 +12,6 @@ is_solo [] = false
 is_solo (word ∷ []) = is_text word (codes "solo")
 is_solo (word ∷ other ∷ words) = false
 
--- the text is that of the trace of mode Plain that the bytes are
-abbrev pub IsPlainText : List ℕ → List ℕ → Type 0
-IsPlainText bytes text = IsSoloText bytes Plain text
-
 -- a run with these words, which ends with that status
 abbrev pub IsSoloRun : List (List ℕ) → RunStatus → Streams → Streams → Type 0
-IsSoloRun words status old new = IsRun IsPlainText (is_solo words) status old new
+IsSoloRun words status old new = IsRun (IsSoloText Plain) (is_solo words) status old new

@@ -3,8 +3,9 @@ ghost use Rattle.std.specs.String.{string_bytes};
 ghost use Rattle.std.specs.Io.KnownBytes.{Appends};
 ghost use Rattle.wf_core.specs.Bytes.{AppendsFront};
 ghost use Rattle.wf_core.specs.Faults.{Rose};
+ghost use Rattle.trace_text.specs.SoloText.{IsSoloText};
 ghost use Rattle.run_engine.specs.Runs.{IsDueText, status_due, streams};
-ghost use Rattle.run_engine.specs.Solo.{IsPlainText, IsSoloRun, is_solo};
+ghost use Rattle.run_engine.specs.Solo.{IsSoloRun, is_solo};
 
 use crate::solo_run::run_solo;
 use std::alloc::{AllocError, Global};
@@ -62,7 +63,7 @@ struct Due {
 
 fn due_for(alloc: Global, input: &[u8]) -> Result<Due, AllocError>
     ensures status { IfOk result (λ due. due.status ≡ status_due input.now) }
-    ensures text { IfOk result (λ due. IsDueText IsPlainText input.now due.text.items) }
+    ensures text { IfOk result (λ due. IsDueText (IsSoloText Mode.Plain) input.now due.text.items) }
 {
     match read_trace(alloc, input, Mode::Plain) {
         Ok(trace) => Ok(Due {

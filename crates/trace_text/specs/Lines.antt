@@ -1,5 +1,5 @@
 -- What one line adds to a trace, or its first fault, in the order in which the faults of one line are tried.
-use Rattle.std.specs.Prelude.{ℕ, ◌+◌, nat_le, nat_lt, if◌then◌else◌, Bool, true, false, List, [], ◌∷◌, length, codes, Option, None, Some, Result, Ok, Err, ok_or, option_map}
+use Rattle.std.specs.Prelude.{ℕ, ◌+◌, nat_le, nat_lt, if◌then◌else◌, List, [], ◌∷◌, length, codes, Option, None, Some, Result, Ok, Err, ok_or, option_map}
 use Rattle.wf_core.specs.Limits.{line_max, threads_max, backends_max, calls_max}
 use Rattle.wf_core.specs.Names.{is_text}
 use Rattle.path_walk.specs.declared.call.Call.{Call}

@@ -64,5 +64,5 @@ solo_text trace =
     ++ end_line
 
 -- the text is that of the trace that the bytes are
-abbrev pub IsSoloText : List ℕ → Mode → List ℕ → Type 0
-IsSoloText bytes mode text = (trace : Traced) × Reads bytes mode trace × (text ≡ solo_text trace)
+abbrev pub IsSoloText : Mode → List ℕ → List ℕ → Type 0
+IsSoloText mode bytes text = (trace : Traced) × Reads bytes mode trace × (text ≡ solo_text trace)
