@@ -6,10 +6,10 @@ use Rattle.post_core.specs.declared.owner.Taken.TheVariants as taken
 use Rattle.post_core.specs.Kept.{listed}
 use Rattle.post_core.specs.ServingSteps.{job_started, place_emptied}
 use Rattle.post_core.specs.Views.{owner_of}
-use Rattle.std.specs.Prelude.{◌≡◌, ◌≢◌, ℕ, ◌/◌}
+use Rattle.std.specs.Prelude.{◌≡◌, ℕ}
 use Rattle.post_core.specs.declared.owner.Noticed.{Noticed}
 use Rattle.post_core.specs.declared.owner.Noticed.TheVariants as noticed
-use Rattle.post_core.specs.MailSteps.{lowest_in, notice_found, notice_taken, words_empty}
+use Rattle.post_core.specs.MailSteps.{IsFirstNotice, words_empty}
 use Rattle.post_core.specs.declared.meant.Meant.{Ghosts}
 use Rattle.post_core.specs.declared.owner.Emptied.{Emptied}
 use Rattle.post_core.specs.declared.owner.Exec.{Exec}
@@ -68,7 +68,7 @@ module _ {J M : Type 0} {g : Ghosts J M} where
 
   -- The words of the mailbox were found 0 in turn, up to the first that was not, whose lowest place was got.
   abbrev pub IsNextNotice : Post J M → View M → Noticed J M g → Type 0
-  IsNextNotice post v (noticed.Got got) = IsGotOf post got × ((found : ℕ) × (found ≢ 0) × (got_place got ≡ lowest_in (got_place got / 64) found) × (got_view got ≡ notice_taken (got_place got) (notice_found (got_place got) (words_empty (got_place got / 64) v))))
+  IsNextNotice post v (noticed.Got got) = IsGotOf post got × IsFirstNotice (got_place got) v (got_view got)
   IsNextNotice post v (noticed.Nothing owner) = IsOwnerOf post owner × (owner_view owner ≡ words_empty 4 v)
 
   -- the execution stands as it did, but perhaps for its room

@@ -1,10 +1,8 @@
-use Rattle.std.proofs.Common.{None, ◌<◌, ◌+◌, ◌++◌, ◌∷◌, [], length, map, refl, arith, ap, sym, subst, ◌∙◌}
-use Rattle.std.specs.Prelude.{slice_set, slice_index}
+use Rattle.std.proofs.Common.{◌<◌, ◌+◌, length, map, refl, arith, ap, sym, subst, ◌∙◌}
+use Rattle.std.specs.Prelude.{slice_index}
 use Rattle.std.proofs.lemmas.List.{length-map, length-set}
 use Rattle.proxy_laws.specs.Phases.{serving_after_look}
 use Rattle.post_core.specs.declared.views.Entry.{Entry}
-use Rattle.post_core.specs.ServingSteps.{job_started}
-use Rattle.post_core.specs.Kept.{listed}
 use Rattle.post_core.specs.Parts.{IsOwnerAt, serving_of}
 use Rattle.post_core.proofs.OwnerAt.{empties, starts_job}
 use Rattle.post_core.proofs.owner.Exec.take.Goals as goal

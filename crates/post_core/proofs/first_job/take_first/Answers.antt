@@ -2,7 +2,7 @@ use Rattle.std.proofs.Common.{◌≡◌, ℕ, Some, List, [], ◌∷◌, ap, sym
 use Rattle.std.specs.Prelude.{slice_get}
 use Rattle.post_core.specs.Steps.{all_meant}
 use Rattle.post_core.specs.Views.{owner_of}
-use Rattle.post_core.proofs.first_job.first_job.Goals as goal
+use Rattle.post_core.proofs.first_job.take_first.Goals as goal
 
 -- what the first slot of a list holds
 abbrev first_slot : {R : Type 0} → R → List (ℕ × R) → R

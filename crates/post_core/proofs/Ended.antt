@@ -84,6 +84,14 @@ module _ {X : Type 0} where
   pub counts_one : (test : X → Bool) (xs : List X) (k : ℕ) (d : X) → k < length xs → IsTrue (test (get_or xs k d)) → 0 < count_by test xs
   counts_one test xs k d near is = let h = some_left test xs k d near is in omega (arith, length-filter test xs)
 
+-- where the senders of the passes are all in order, each sender has one
+pub any_of_each : {X : Type 0} (sender : X → ℕ) (xs : List X) (n : ℕ) → AreEach n (map sender xs) → (s : ℕ) → s < n → IsTrue (list_any (λ x. sender x == s) xs)
+any_of_each sender xs n each s near = any (λ x. sender x) xs s s (let wide = each.0 in omega (arith, length-map xs sender)) (each.1 s near) where
+  any : {X : Type 0} (f : X → ℕ) (ys : List X) (k m : ℕ) → k < length ys → get_or (map f ys) k 0 ≡ m → IsTrue (list_any (λ x. f x == m) ys)
+  any f [] k m inside is = absurd (omega arith)
+  any f (y ∷ ys) zero m inside is = ap (λ b. b || list_any (λ x. f x == m) ys) (eq-eqb (f y) m is)
+  any f (y ∷ ys) (suc k) m inside is = elim (f y == m) as (λ b. IsTrue (b || list_any (λ x. f x == m) ys)) [ true ↦ refl | false ↦ any f ys k m (omega arith) is ]
+
 -- the marks that a pass keeps, of the marks that were put
 pub own_of_kept : {M : Type 0} (n s : ℕ) (es : List (Entry M)) → map own_mark (kept_from n s es) ≡ own_from n s (marks_of es)
 own_of_kept n s [] = refl
