@@ -295,9 +295,9 @@ module _ {M : Type 0} (started : List (List StartedJob)) (taken : List ℕ) (got
           (λ i. (sym now_is i, sym counts_are i, sym (u_is ∙ ap (λ h. settled_as p n fate.Cancelled h (job_started p e v)) found) i))
           cancels_now
 
--- a closed owner that has taken the first job of p can settle it
-pub can_cancel : {M : Type 0} (v : View M) (p n : ℕ) (e : Entry M) → p < length (owner_of v).jobs → n ≡ length (listed (owner_of v).jobs p) → IsActiveHere (listed (owner_of (job_started p e v)).jobs p) n
-can_cancel {M} v p n e row_there n_is =
+-- a job that the owner has just taken is active
+pub taken_is_active : {M : Type 0} (v : View M) (p n : ℕ) (e : Entry M) → p < length (owner_of v).jobs → n ≡ length (listed (owner_of v).jobs p) → IsActiveHere (listed (owner_of (job_started p e v)).jobs p) n
+taken_is_active {M} v p n e row_there n_is =
     let row : List (Held M) = listed (owner_of v).jobs p in
     let held : Held M = record { mark = e.mark; meaning = e.meaning; started = start_under (owner_of v).state (serving_at p v); fate = None } in
     let then_is : listed (set (owner_of v).jobs p (row ++ held ∷ [])) p ≡ row ++ held ∷ [] = get_or-set_same (owner_of v).jobs p (row ++ held ∷ []) [] row_there in
