@@ -65,7 +65,7 @@ module _ {X : Type 0} where
   last_or [] x d = refl
   last_or (y ∷ xs) x d = last_or xs x d
 
-  set_last : (xs : List X) (x z : X) → set (xs ++ x ∷ []) (length xs) z ≡ xs ++ z ∷ []
+  pub set_last : (xs : List X) (x z : X) → set (xs ++ x ∷ []) (length xs) z ≡ xs ++ z ∷ []
   set_last [] x z = refl
   set_last (y ∷ xs) x z = ap (λ ys. y ∷ ys) (set_last xs x z)
 

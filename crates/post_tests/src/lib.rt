@@ -2,4 +2,14 @@
 #![tactic(auto)]
 
 #[cfg(test)]
+mod hostile;
+#[cfg(test)]
 mod making;
+#[cfg(test)]
+mod owning;
+#[cfg(test)]
+mod records;
+#[cfg(test)]
+mod scenes;
+#[cfg(test)]
+mod sending;

@@ -1,0 +1,2 @@
+pub mod HeldJobs
+pub mod Senders
