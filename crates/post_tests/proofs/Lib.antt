@@ -1,2 +1,3 @@
 pub mod HeldJobs
+pub mod Lines
 pub mod Senders
