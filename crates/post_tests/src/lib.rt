@@ -10,6 +10,8 @@ mod making;
 #[cfg(test)]
 mod owning;
 #[cfg(test)]
+mod places;
+#[cfg(test)]
 mod records;
 #[cfg(test)]
 mod scenes;
