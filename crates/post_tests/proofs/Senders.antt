@@ -1,5 +1,5 @@
 -- The passes of a target's senders and their uses, as they are made and as they send.
-use Rattle.std.proofs.Common.{◌≡◌, ℕ, zero, suc, ◌+◌, ◌<◌, ◌≤◌, List, [], ◌∷◌, ◌++◌, length, map, get_or, take, drop, replicate, refl, arith, ap, sym, subst, ◌∙◌, length-append}
+use Rattle.std.proofs.Common.{◌≡◌, ℕ, zero, suc, ◌<◌, List, [], ◌∷◌, ◌++◌, length, map, get_or, take, drop, refl, arith, ap, sym, subst, ◌∙◌, length-append}
 use Rattle.std.specs.Prelude.{All, slice_index}
 use Rattle.std.proofs.Math.ListN.{get_or-append}
 use Rattle.std.proofs.Math.Seq.{get_or-append_seam}
@@ -14,7 +14,7 @@ use Rattle.post_core.specs.declared.post.SendPass.{SendPass}
 use Rattle.post_core.specs.declared.views.View.{View}
 use Rattle.post_core.specs.Ending.{AreEach}
 use Rattle.post_core.specs.Making.{IsMade, fresh_view, system_uses}
-use Rattle.post_core.specs.SendParts.{HasPlace, IsPassOf, IsUseOf, pass_sender, pass_view, post_places, post_senders, post_target}
+use Rattle.post_core.specs.SendParts.{IsPassOf, pass_sender, pass_view, post_places, post_senders, post_target}
 use Rattle.post_core.specs.Views.{first_uses, pass_of}
 use Rattle.post_tests.specs.Scenes.{AreAllPasses, KeepsUses, MayAllSend, MayPut, MaySend}
 

@@ -1,9 +1,8 @@
 -- What a pass has once it has created a place.
-use Rattle.std.specs.Prelude.{◌≡◌, ℕ, ◌<◌, slice_index}
+use Rattle.std.specs.Prelude.{ℕ}
 use Rattle.post_core.specs.declared.post.PlaceUse.{PlaceUse}
 use Rattle.post_core.specs.declared.post.Post.{Post}
 use Rattle.post_core.specs.declared.views.View.{View}
-use Rattle.post_core.specs.Views.{pass_of}
 use Rattle.post_tests.specs.Scenes.{MayPut}
 
 -- the pass may put wherever it could, and at the place of the new use

@@ -1,4 +1,3 @@
-use Rattle.std.proofs.Common.{◌≡◌}
 use Rattle.std.specs.Prelude.{None}
 use Rattle.post_core.specs.OwnerViews.{IsOwnerOf, owner_view}
 use Rattle.post_core.specs.SendParts.{IsPassOf, pass_view}

@@ -1,4 +1,3 @@
-use Rattle.std.proofs.Common.{◌≡◌}
 use Rattle.post_core.specs.ClosingViews.{IsClosedOf, closed_view}
 use Rattle.post_core.specs.SendParts.{IsPassOf, pass_view}
 use Rattle.post_tests.specs.Scenes.{HasHeld, KeepsUses}

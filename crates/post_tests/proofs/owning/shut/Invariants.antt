@@ -1,4 +1,3 @@
-use Rattle.std.proofs.Common.{◌≡◌}
 use Rattle.post_core.specs.ClosingViews.{IsClosingOf, closing_view}
 use Rattle.post_tests.specs.Scenes.{HasHeld}
 use Rattle.post_tests.proofs.owning.shut.Given as goal

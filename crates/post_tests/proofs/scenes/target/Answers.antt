@@ -1,4 +1,4 @@
-use Rattle.std.proofs.Common.{◌<◌, arith}
+use Rattle.std.proofs.Common.{arith}
 use Rattle.post_tests.proofs.Senders.{are_all, may_all}
 use Rattle.post_tests.proofs.scenes.target.Goals as goal
 

@@ -1,4 +1,3 @@
-use Rattle.std.proofs.Common.{◌≡◌}
 use Rattle.post_tests.specs.Scenes.{MaySend}
 use Rattle.post_tests.proofs.sending.send_each.Given as goal
 
