@@ -22,6 +22,7 @@ use Rattle.post_core.specs.Rule.{Shown}
 use Rattle.post_core.specs.Steps.{IsActiveHere, settled_job, took_job, all_meant, took_place, gave_place}
 use Rattle.post_core.specs.Views.{IsOwnerView, job_settled, job_taken, owner_of, turn_taken, turn_given}
 use Rattle.post_core.specs.Words.{settled_at, taken_at, turn_at}
+use Rattle.post_core.proofs.Numbers.{few_put}
 use Rattle.post_core.proofs.Owning.{long, takes_job, waits}
 use Rattle.post_core.proofs.Settled.{settles}
 
@@ -46,6 +47,7 @@ module _ {J M : Type 0} (meaning : J → M) (suits : ℕ → Mark → M → Type
     (takes_job meaning suits senders places s r id p v held at is.1 first.0 first.1 turn works first.2).1.0,
     (
       r.words.taken_is p near ∙ sym (long meaning suits senders places s r id p v held at is.1 first.0 first.1 turn works first.2),
+      (let a = r.words.taken_is p near in let b = r.sound.jobs.taken p (let c = r.sized.places_are in omega arith) in let c = few_put r.world p r.formed (let d = r.sized.places_are in omega arith) (let d = r.sized.senders_are in let e = r.sized.few_senders in omega arith) (r.sized.few_marks p) in omega arith),
       (λ e others is_ring. r.suited p (length (r.world.jobs p)) e (at_drop (r.entries p) (length (r.world.jobs p)) e others (waits meaning suits senders places s r id p v held at is.1 e others turn works is_ring))),
       refl,
     ),

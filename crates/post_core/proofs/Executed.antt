@@ -8,6 +8,7 @@ use Rattle.atomic_table.specs.Table.{State, keeps, stepped}
 use Rattle.task_ring.specs.Ring.{RingView}
 use Rattle.proxy_laws.specs.declared.actors.Note.{Note}
 use Rattle.proxy_laws.specs.declared.actors.Note.TheVariants as note
+use Rattle.proxy_laws.specs.declared.actors.OwnerState.TheVariants as owner
 use Rattle.proxy_laws.specs.declared.actors.Serving.{Serving}
 use Rattle.proxy_laws.specs.declared.actors.Serving.TheVariants as serving
 use Rattle.proxy_laws.specs.declared.events.Event.{Event}
@@ -147,6 +148,17 @@ module _ {J M : Type 0} (meaning : J → M) (suits : ℕ → Mark → M → Type
         refl (owner_of (place_looked p v)) refl refl refl
         fits_looked
         (words_same (put_at p))
+
+    -- ResetPlace, by a closed owner
+    pub resets_place : o.state ≡ owner.Closed → IsEvent meaning suits senders places s r (event.ResetPlace p) (stepped s (note_at p) 0 id held (at_serving p serving.Away v) keeps)
+    resets_place closed = serves (upd w.note p note.None) serving.Away serving.Away (at_serving p serving.Away v) (note_at p) 0 (event.ResetPlace p) refl
+        (record { there = record { sender = tt; place = inside }; conditions = (of.does.state_is ∙ closed, (of.does.state_is ∙ closed, not_away, over)) })
+        refl (owner_of (at_serving p serving.Away v)) refl refl refl
+        (fits_at (upd w.note p note.None) serving.Away serving.Away refl)
+        (set_note places w.refs w.turn w.sent (taken_in w) w.note w.life w.mail s.words r.sized.few_places r.words p 0 note.None refl near)
+      where
+        not_away : w.serving p ≢ serving.Away
+        not_away is = let b : false ≡ true = (λ i. is_working (sym closed i) ((sym is ∙ serving_here) i)) ∙ works in cc
 
   -- Finish, where the exchange won or not
   module _ (seen : serving_at p v ≡ serving.SeenEmpty) (no_turn : o.turn ≡ None) where

@@ -1,7 +1,10 @@
 pub mod Bits
 pub mod Executed
 pub mod Fills
-pub mod Closed
+pub mod Ended
+pub mod ClosingEvents
+pub mod OwnerEnds
+pub mod WordsEmpty
 pub mod Ends
 pub mod Folded
 pub mod Members
@@ -15,6 +18,7 @@ pub mod Frames
 pub mod OwnerAt
 pub mod OwnerLawful
 pub mod OwnerSettles
+pub mod EmptiedSettles
 pub mod Owning
 pub mod PutStep
 pub mod Putting

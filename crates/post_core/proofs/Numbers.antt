@@ -5,12 +5,13 @@ use Rattle.task_ring.specs.Ring.{RingView}
 use Rattle.post_core.specs.declared.slots.Item.{Item}
 use Rattle.post_core.specs.declared.views.View.{View}
 use Rattle.post_core.specs.Rule.{Shown}
-use Rattle.std.proofs.Common.{◌≡◌, ℕ, zero, suc, ◌*◌, ◌<◌, ◌≤◌, length, arith}
-use Rattle.std.specs.Prelude.{count_by}
+use Rattle.std.proofs.Common.{◌≡◌, ℕ, zero, suc, ◌*◌, ◌<◌, ◌≤◌, length, refl, arith}
+use Rattle.std.specs.Prelude.{count_by, not}
 use Rattle.proxy_laws.specs.declared.records.Mark.{Mark}
 use Rattle.proxy_laws.specs.Lists.{is_by}
-use Rattle.proxy_laws.specs.Maps.{sum_below}
-use Rattle.proxy_laws.proofs.Maps.{sum_le}
+use Rattle.proxy_laws.specs.Maps.{bit, sum_below}
+use Rattle.proxy_laws.specs.Phases.{is_idle, is_open}
+use Rattle.proxy_laws.proofs.Maps.{bit_le, sum_le, sum_ones}
 use Rattle.proxy_laws.proofs.Numbers.{marks_are_summed}
 use Rattle.proxy_laws.specs.Worlds.{WorldState, IsWellFormed}
 
@@ -34,4 +35,15 @@ got_few meaning suits senders places s r =
     let most = sum_constant w.places 18014398509481984 in
     let few = r.sound.notices in
     let a = r.sized.places_are in let b = r.sized.few_places in
+    omega arith
+
+-- There is a reference for each sender at most, and the owner's.
+pub refs_few : {J M : Type 0} (meaning : J → M) (suits : ℕ → Mark → M → Type 0) (senders places : ℕ) (s : State (RingView (Item J)) (View M)) (r : Shown meaning suits senders places s) → r.world.refs ≤ 65
+refs_few meaning suits senders places s r =
+    let w = r.world in
+    let a = r.sound.refs in
+    let b = sum_le w.senders (λ k. bit (not (is_idle (w.phase k)))) (λ k. 1) (λ k near. bit_le (not (is_idle (w.phase k)))) in
+    let c = sum_ones w.senders (λ k. 1) (λ k near. refl) in
+    let d = bit_le (is_open w.owner) in
+    let e = r.sized.senders_are in let f = r.sized.few_senders in
     omega arith

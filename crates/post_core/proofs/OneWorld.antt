@@ -27,7 +27,7 @@ use Rattle.post_core.specs.declared.views.View.{View}
 use Rattle.post_core.specs.Kept.{kept_by, marks_of}
 use Rattle.post_core.specs.Records.{no_mark, own_mark}
 use Rattle.post_core.specs.Rule.{HasPass, OwnerFits, PassFits, Shown}
-use Rattle.post_core.proofs.Closed.{counts_one}
+use Rattle.post_core.proofs.Ended.{counts_one}
 use Rattle.post_core.proofs.Fills.{kept_right, kept_there}
 
 module _ {J M : Type 0} (meaning : J → M) (suits : ℕ → Mark → M → Type 0) (senders places : ℕ) (s : State (RingView (Item J)) (View M)) (r r' : Shown meaning suits senders places s) where

@@ -1,12 +1,12 @@
 -- What the owner's view says of its state, step by step.
-use Rattle.std.proofs.Common.{◌≡◌, ◌≢◌, ℕ, zero, suc, ◌+◌, ◌<◌, true, None, List, [], ◌∷◌, ◌++◌, length, map, get_or, set, refl, arith, ap, sym, subst, ◌∙◌, length-append, length-set}
+use Rattle.std.proofs.Common.{◌≡◌, ◌≢◌, ℕ, zero, suc, ◌+◌, ◌<◌, Bool, true, false, cond, None, List, [], ◌∷◌, ◌++◌, length, map, get_or, set, refl, arith, ap, sym, subst, ◌∙◌, length-append, length-set}
 use Rattle.std.proofs.lemmas.List.{map-append}
 use Rattle.std.proofs.lemmas.List.{get_or-set_same, get_or-set_other}
 use mathlib.Core.Logic.{dite}
 use native.Mathlib.Decide.{ℕ_discrete}
 use Rattle.proxy_laws.specs.declared.actors.Serving.{Serving}
 use Rattle.proxy_laws.specs.declared.actors.Serving.TheVariants as serving
-use Rattle.proxy_laws.specs.Phases.{serving_after_look}
+use Rattle.proxy_laws.specs.Phases.{is_closed, serving_after_look}
 use Rattle.proxy_laws.specs.Lists.{start_under}
 use Rattle.proxy_laws.specs.declared.actors.OwnerState.TheVariants as owner
 use Rattle.proxy_laws.specs.declared.records.Started.{Started}
@@ -22,6 +22,11 @@ use Rattle.post_core.specs.Parts.{IsOpen, IsOwner, IsOwnerAt, is_open_start, ser
 use Rattle.post_core.specs.ServingSteps.{at_serving, job_started, place_emptied, serving_at}
 use Rattle.post_core.specs.Views.{owner_of}
 
+-- a word of the mailbox more may be known to stay 0
+pub word_kept : (b : Bool) (word : ℕ) (clear : List Bool) → length clear ≡ 4 → length (cond b (set clear word true) clear) ≡ 4
+word_kept true word clear four = length-set clear word true ∙ four
+word_kept false word clear four = four
+
 module _ {M : Type 0} (started : List (List StartedJob)) (taken : List ℕ) (got : ℕ) where
   pub empty_still : (word : ℕ) (v : View M) → IsOwner started taken got v → IsOwner started taken got (word_empty word v)
   empty_still word v o = let was = o.stands in record {
@@ -34,6 +39,7 @@ module _ {M : Type 0} (started : List (List StartedJob)) (taken : List ℕ) (got
       got_is = was.got_is;
       wide = was.wide;
       rows = was.rows;
+      words = word_kept (is_closed (owner_of v).state) word (owner_of v).clear was.words;
       kept = was.kept;
     };
     away = o.away;
@@ -64,6 +70,7 @@ module _ {M : Type 0} (started : List (List StartedJob)) (taken : List ℕ) (got
       got_is = o.got_is;
       wide = length-set (owner_of v).serving p at_place ∙ o.wide;
       rows = o.rows;
+      words = o.words;
       kept = o.kept;
     }
 
@@ -91,6 +98,7 @@ module _ {M : Type 0} (started : List (List StartedJob)) (taken : List ℕ) (got
       got_is = ap (λ n. n + 1) was.got_is;
       wide = length-set (owner_of v).serving p (serving.Got ((owner_of v).got + 1)) ∙ was.wide;
       rows = was.rows;
+      words = was.words;
       kept = was.kept;
     };
     here = set_here p near (serving.Got ((owner_of v).got + 1)) v was.wide ∙ ap (λ n. serving.Got (n + 1)) was.got_is;
@@ -125,6 +133,7 @@ module _ {M : Type 0} (started : List (List StartedJob)) (taken : List ℕ) (got
         got_is = was.got_is;
         wide = was.wide ∙ sym (length-set taken p (get_or taken p 0 + 1));
         rows = length-set (owner_of v).jobs p (listed (owner_of v).jobs p ++ held ∷ []) ∙ (jobs_wide ∙ sym (length-set taken p (get_or taken p 0 + 1)));
+        words = was.words;
         kept = λ q at_q. dite (ℕ_discrete q p)
             (λ same. subst (λ k. (map started_job (listed (set (owner_of v).jobs p (listed (owner_of v).jobs p ++ held ∷ [])) k) ≡ listed (set started p (listed started p ++ job ∷ [])) k) × (get_or (set taken p (get_or taken p 0 + 1)) k 0 ≡ length (listed (set started p (listed started p ++ job ∷ [])) k))) (sym same)
             (let row = was.kept p near in (
@@ -154,6 +163,7 @@ module _ {M : Type 0} (started : List (List StartedJob)) (taken : List ℕ) (got
       got_is = was.got_is;
       wide = length-set (owner_of v).serving p (serving_after_look (serving_at p v)) ∙ was.wide;
       rows = was.rows;
+      words = was.words;
       kept = was.kept;
     };
     here = set_here p near (serving_after_look (serving_at p v)) v was.wide ∙ ap serving_after_look o.here;

@@ -11,12 +11,13 @@ use Rattle.proxy_laws.specs.declared.records.Mark.{Mark}
 use Rattle.proxy_laws.proofs.Numbers.{free_of_word}
 use Rattle.post_core.specs.declared.views.View.{View}
 use Rattle.post_core.specs.MailSteps.{lowest_in, notice_found, notice_taken, word_empty}
-use Rattle.post_core.specs.OwnerLaws.{AddsMail, BeginsDirect, FinishesPlace, LooksMail, LooksPlace, OwnerGivesPlace, OwnerTakesPlace, ReceivesNote, SettlesCancelled, SettlesFinished, TakesJob, TakesNotice, mail_bit}
+use Rattle.post_core.specs.OwnerLaws.{AddsMail, BeginsDirect, DropsOwn, FinishesPlace, LooksClosed, LooksMail, LooksPlace, OwnerGivesPlace, OwnerTakesPlace, ReceivesNote, ResetsPlace, SettlesCancelled, SettlesFinished, TakesJob, TakesNotice, mail_bit}
 use Rattle.post_core.specs.Rule.{IsEvent}
 use Rattle.post_core.specs.Views.{at_phase, owner_of, pass_of}
 use Rattle.post_core.specs.Words.{mail_at}
 use Rattle.post_core.proofs.Allowed.{first_of}
-use Rattle.post_core.proofs.Executed.{begins_directly, finishes, found_is, looks_place, receives}
+use Rattle.post_core.proofs.ClosingEvents.{drops_own, finds_none, finds_some, own_counted}
+use Rattle.post_core.proofs.Executed.{begins_directly, finishes, found_is, looks_place, receives, resets_place}
 use Rattle.post_core.proofs.Mailed.{adds_mail, looks_empty, looks_found, takes_notice}
 use Rattle.post_core.proofs.Owning.{takes_job}
 use Rattle.post_core.proofs.Settled.{settles}
@@ -95,3 +96,17 @@ module _ {J M : Type 0} (meaning : J → M) (suits : ℕ → Mark → M → Type
   pub job_is_cancelled : SettlesCancelled meaning suits
   job_is_cancelled senders places s r id v held at is p n near can active = let h = active.1 in
       settles meaning suits senders places s r id p n fate.Cancelled v held at is.1 h.0 near active.0 h.1 h.2 can _
+
+  pub own_is_dropped : DropsOwn meaning suits
+  own_is_dropped senders places s r id v held at is opened =
+      drops_own meaning suits senders places s r id v held at is.1 opened _ (own_counted meaning suits senders places s r id v held at is.1 opened)
+
+  pub closed_is_looked : LooksClosed meaning suits
+  closed_is_looked senders places s r id v held at is count closes found_is = (
+    (λ none. finds_none meaning suits senders places s r id v held at is.1 closes count (sym found_is) none),
+    (λ some_refs. finds_some meaning suits senders places s r id v held at is.1 closes count (sym found_is) some_refs),
+  )
+
+  pub place_is_reset : ResetsPlace meaning suits
+  place_is_reset senders places s r id v held at is p near closed turn works none_waits =
+      resets_place meaning suits senders places s r id p v held at is.1 near turn works none_waits closed

@@ -55,6 +55,7 @@ module _ {M : Type 0} (started : List (List StartedJob)) (taken : List ℕ) (p :
     got_is = o.got_is;
     wide = o.wide;
     rows = length-set (owner_of v).jobs p (set row n (settled_held f h.0)) ∙ o.rows;
+    words = o.words;
     kept = keeps_settled h.0 h.1 o.rows lists o.kept;
   })
 

@@ -1,14 +1,14 @@
 -- What the table asks of each step of a sender, from the fact that the step is its event.
-use Rattle.std.proofs.Common.{◌≡◌, ℕ, zero, suc, ◌+◌, ◌-◌, ◌%◌, ◌^◌, ◌<◌, ◌≤◌, ◌==◌, true, false, if◌then◌else◌, Some, List, [], ◌∷◌, length, get_or, slice_index, refl, arith, ap, sym, subst, ◌∙◌, append-nil, set}
+use Rattle.std.proofs.Common.{◌≡◌, ℕ, zero, suc, ◌+◌, ◌-◌, ◌%◌, ◌^◌, ◌<◌, ◌≤◌, ◌==◌, true, false, if◌then◌else◌, Some, List, [], ◌∷◌, length, get_or, slice_index, refl, arith, ap, sym, subst, ◌∙◌, append-nil}
 use Rattle.std.specs.Prelude.{IsTrue}
-use Rattle.std.proofs.lemmas.List.{length-map, set-get_or}
+use Rattle.std.proofs.lemmas.List.{length-map}
 use mathlib.Core.Logic.{dite}
 use mathlib.Core.Option.{none, some, some-injective, some-ne-none}
 use native.Mathlib.Decide.{ℕ_discrete}
 use prog.Atomic.{either}
 use lib.ListN.{get_elem?}
-use Rattle.atomic_table.specs.Table.{Act, Allows, State, Valid, carried_after, gives, keeps, rest, step, stepped, takes}
-use Rattle.atomic_table.proofs.Lists.{exchanged, set_again}
+use Rattle.atomic_table.specs.Table.{Act, Allows, Valid, carried_after, gives, keeps, rest, step, stepped, takes}
+use Rattle.atomic_table.proofs.Lists.{exchanged}
 use Rattle.task_ring.specs.Ring.{RingView}
 use Rattle.proxy_laws.specs.declared.actors.Phase.TheVariants as phase
 use Rattle.proxy_laws.specs.declared.records.Mark.{Mark}

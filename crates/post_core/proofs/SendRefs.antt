@@ -2,7 +2,7 @@
 use Rattle.post_core.specs.declared.slots.Item.{Item}
 use Rattle.task_ring.specs.Ring.{RingView}
 use Rattle.std.proofs.Common.{◌≡◌, ℕ, suc, ◌+◌, ◌-◌, ◌≤◌, true, false, List, [], ◌∷◌, ◌++◌, set, refl, arith, ap, sym, subst, ◌∙◌, append-nil}
-use Rattle.std.specs.Prelude.{IsTrue, slice_index, not, ◌||◌}
+use Rattle.std.specs.Prelude.{IsTrue, slice_index, ◌||◌}
 use Rattle.std.specs.List.{list_any}
 use Rattle.std.proofs.lemmas.List.{set-get_or}
 use mathlib.Core.Option.{some, some-ne-none}
@@ -15,11 +15,10 @@ use Rattle.proxy_laws.specs.declared.records.Mark.{Mark}
 use Rattle.proxy_laws.specs.Events.{Enabled, world_after}
 use Rattle.proxy_laws.specs.Lists.{active_job}
 use Rattle.proxy_laws.specs.declared.records.Started.TheVariants as started
-use Rattle.proxy_laws.specs.Maps.{bit}
-use Rattle.proxy_laws.specs.Phases.{has_turn_at, is_idle, is_open}
+use Rattle.proxy_laws.specs.Phases.{has_turn_at, is_idle}
 use Rattle.proxy_laws.specs.Worlds.{WorldState}
 use Rattle.proxy_laws.proofs.Inductive.{event_keeps}
-use Rattle.proxy_laws.proofs.Maps.{bit_le, sum_le, sum_ones, upd_here}
+use Rattle.proxy_laws.proofs.Maps.{upd_here}
 use Rattle.proxy_laws.proofs.References.{has_reference}
 use Rattle.proxy_laws.proofs.WellFormed.{worlds_are_well_formed}
 use Rattle.post_core.specs.declared.views.Fact.{Fact}
@@ -32,6 +31,7 @@ use Rattle.post_core.specs.Views.{IsPassView, at_phase, pass_of}
 use Rattle.post_core.specs.Words.{WordsShow, refs_at}
 use Rattle.post_core.proofs.Frames.{pass_views}
 use Rattle.post_core.proofs.Members.{one_at}
+use Rattle.post_core.proofs.Numbers.{refs_few}
 use Rattle.post_core.proofs.Present.{keeps_one, there_set}
 use Rattle.post_core.proofs.Sending.{does_else}
 use Rattle.post_core.proofs.Tallied.{Lives, tally_set}
@@ -61,10 +61,8 @@ module _ {J M : Type 0} (meaning : J → M) (suits : ℕ → Mark → M → Type
   same_words : (x : ℕ) → x ≡ slice_index s.words refs_at → set s.words refs_at x ≡ s.words
   same_words x is = ap (λ k. set s.words refs_at k) is ∙ set-get_or s.words refs_at 0
 
-  -- one for each sender, and the owner's
   pub few_refs : w.refs ≤ 65
-  few_refs = let a = r.sound.refs in let b = sum_le w.senders (λ k. bit (not (is_idle (w.phase k)))) (λ k. 1) (λ k near. bit_le (not (is_idle (w.phase k)))) in let c = sum_ones w.senders (λ k. 1) (λ k near. refl) in
-      let d = bit_le (is_open w.owner) in let e = r.sized.senders_are in let f = r.sized.few_senders in omega arith
+  few_refs = refs_few meaning suits senders places s r
 
   -- where there is a reference, nothing that was seen says that the target is closed
   pub not_seen_closed : 1 ≤ w.refs → has_seen_closed v ≡ false

@@ -37,7 +37,7 @@ use Rattle.proxy_laws.specs.Settling.{settle_event, settler}
 use Rattle.proxy_laws.proofs.Settled.{can_settle, world_after_settle}
 use Rattle.post_core.specs.Views.{job_settled, owner_of, settled_as, settled_held}
 use Rattle.post_core.specs.Words.{settled_at}
-use Rattle.post_core.proofs.Closed.{at_get}
+use Rattle.post_core.proofs.Ended.{at_get}
 use Rattle.post_core.proofs.Frames.{listed_else, listed_here, owner_taken, owner_views, pass_taken, slots_taken}
 use Rattle.post_core.proofs.Present.{keeps_same, there_set}
 use Rattle.post_core.proofs.Tallied.{tally_set}

@@ -1,5 +1,5 @@
 -- What the table asks of the steps on the mailbox and at a place, from the fact that each is its event.
-use Rattle.std.proofs.Common.{slice_index, ◌≡◌, ◌≢◌, ℕ, ◌-◌, ◌*◌, ◌%◌, ◌^◌, ◌<◌, ◌==◌, Some, None, List, [], length, refl, arith, ap, sym, ◌∙◌}
+use Rattle.std.proofs.Common.{slice_index, ◌≡◌, ◌≢◌, ℕ, ◌+◌, ◌-◌, ◌*◌, ◌%◌, ◌^◌, ◌<◌, ◌==◌, Some, None, List, [], length, refl, arith, ap, sym, ◌∙◌}
 use Rattle.std.specs.Prelude.{IsTrue, ◌/◌, bit_and, bit_or}
 use Rattle.std.specs.Int.{bit_not, w64}
 use mathlib.Core.Logic.{dite}
@@ -15,12 +15,14 @@ use Rattle.proxy_laws.specs.declared.records.Mark.{Mark}
 use Rattle.proxy_laws.specs.Phases.{is_got, is_working}
 use Rattle.post_core.specs.declared.slots.Item.{Item}
 use Rattle.post_core.specs.declared.views.View.{View}
+use Rattle.post_core.specs.ClosingSteps.{dropped_own, looked_closed, none_left, own_dropped, some_left}
 use Rattle.post_core.specs.MailSteps.{added_mail, looked_mail, lowest_in, notice_found, notice_taken, took_notice, word_empty}
 use Rattle.post_core.specs.Rule.{OwnerFits, Shown}
 use Rattle.post_core.specs.ServingSteps.{at_serving, began_directly, finished_place, looked_place, place_looked, place_received, received_place, serving_at}
 use Rattle.post_core.specs.Views.{IsOwnerView, IsPassView, at_phase, owner_of, pass_of}
-use Rattle.post_core.specs.Words.{mail_at, note_at, put_at}
-use Rattle.post_core.proofs.Executed.{begins_directly, finishes, found_is, looks_place, receives}
+use Rattle.post_core.specs.Words.{mail_at, note_at, put_at, refs_at}
+use Rattle.post_core.proofs.ClosingEvents.{drops_own, finds_none, finds_some, own_counted}
+use Rattle.post_core.proofs.Executed.{begins_directly, finishes, found_is, looks_place, receives, resets_place}
 use Rattle.post_core.proofs.Numbers.{got_few}
 use Rattle.post_core.proofs.Mailed.{adds_mail, looks_empty, looks_found, takes_notice}
 use Rattle.post_core.proofs.Words.{place_is}
@@ -71,3 +73,21 @@ module _ {J M : Type 0} (meaning : J → M) (suits : ℕ → Mark → M → Type
 
     pub finish_allowed : serving_at p v ≡ serving.SeenEmpty → (owner_of v).turn ≡ None → Allows (Shown meaning suits senders places) slots id (v, held) (note_at p) (λ n. either (n == 2) 0 n) (finished_place (step slots (note_at p) 2 0 none) (v, held))
     finish_allowed seen no_turn s r wide at bound = (at_serving p serving.Away v, keeps, tt, (finishes meaning suits senders places s r id p v held at is.1 near seen no_turn (either (slice_index s.words (note_at p) == 2) 0 (slice_index s.words (note_at p))) refl).1.0, ap (λ k. (at_serving k serving.Away v, held)) (sym (place_is (note_at 0) p)))
+
+    pub reset_allowed : (owner_of v).state ≡ owner.Closed → (owner_of v).turn ≡ Some p → IsTrue (is_working (owner_of v).state (serving_at p v)) → (owner_of v).ring ≡ [] → Allows (Shown meaning suits senders places) slots id (v, held) (note_at p) (λ _. 0) (λ _. finished_place (step slots (note_at p) 0 0 none) (v, held) 0)
+    reset_allowed closed turn works none_waits s r wide at bound = (at_serving p serving.Away v, keeps, tt, (resets_place meaning suits senders places s r id p v held at is.1 near turn works none_waits closed).1.0, ap (λ k. (at_serving k serving.Away v, held)) (sym (place_is (note_at 0) p)))
+
+  module _ (is : IsOwnerView v) where
+    pub drop_own_allowed : (owner_of v).state ≡ owner.Open → Allows (Shown meaning suits senders places) slots id (v, held) refs_at (λ n. (n + (2 ^ 64 - 1)) % 2 ^ 64) (dropped_own (step slots refs_at 1 0 none) (v, held))
+    drop_own_allowed opened s r wide at bound = (
+      own_dropped v,
+      keeps,
+      tt,
+      (drops_own meaning suits senders places s r id v held at is.1 opened _ (own_counted meaning suits senders places s r id v held at is.1 opened)).1.0,
+      refl,
+    )
+
+    pub look_closed_allowed : (owner_of v).state ≡ owner.Closing → Allows (Shown meaning suits senders places) slots id (v, held) refs_at (λ n. n) (looked_closed (step slots refs_at 0 0 none) (v, held))
+    look_closed_allowed closes s r wide at bound = dite (ℕ_discrete (slice_index s.words refs_at) 0)
+        (λ none. (none_left v, keeps, tt, (finds_none meaning suits senders places s r id v held at is.1 closes (slice_index s.words refs_at) refl none).1.0, ((λ e. refl), (λ some_refs. absurd (some_refs none)))))
+        (λ some_refs. (some_left (slice_index s.words refs_at) v, keeps, tt, (finds_some meaning suits senders places s r id v held at is.1 closes (slice_index s.words refs_at) refl some_refs).1.0, ((λ e. absurd (some_refs e)), (λ e. refl))))

@@ -1,8 +1,7 @@
 -- What the end of a target's table tells.
 use Rattle.post_core.specs.declared.slots.Item.{Item}
 use Rattle.task_ring.specs.Ring.{RingView}
-use Rattle.std.specs.Prelude.{◌≡◌, ℕ, ◌+◌, ◌<◌, ◌≤◌, ◌==◌, All, IsTrue, List, [], ◌∷◌, length, map, slice_index, slice_index_or}
-use Rattle.std.specs.List.{list_any}
+use Rattle.std.specs.Prelude.{◌≡◌, ℕ, ◌+◌, ◌<◌, ◌≤◌, All, List, [], ◌∷◌, length, map, slice_index, slice_index_or}
 use mathlib.Core.Option.{some}
 use lib.ListN.{get_elem?}
 use Rattle.proxy_laws.specs.declared.records.PostRecord.{PostRecord}
@@ -81,8 +80,8 @@ module _ {M : Type 0} where
     pub own : (p : ℕ) → p < length r.places.items → map own_mark (listed (pass_of v).own p) ≡ own_marks (pass_of v).number (map (λ job. job.mark) (jobs_of r p))
     pub seen : (k : ℕ) (f : Fact M) → get_elem? v.seen k ≡ some f → IsInRecord r f
 
--- the end of the owner and the passes of all senders are of this post's table
+-- The end of the owner and the passes are of this post's table, and there is a pass of each sender, in the order of senders.
 pub record AreAllParts {J M : Type 0} {g : Ghosts J M} (post : Post J M) (emptied : Emptied J M g) (passes : List (SendPass J M g)) : Type 0 where
   pub owner : IsEmptiedOf post emptied
   pub tables : All (λ pass. IsPassOf post pass) passes
-  pub all : (s : ℕ) → s < post_senders post → IsTrue (list_any (λ pass. pass_sender pass == s) passes)
+  pub each : AreEach (post_senders post) (map (λ pass. pass_sender pass) passes)

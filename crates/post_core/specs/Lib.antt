@@ -1,4 +1,8 @@
+pub mod ClosingParts
+pub mod ClosingSteps
+pub mod ClosingViews
 pub mod Ending
+pub mod EndLaws
 pub mod Kept
 pub mod MailSteps
 pub mod LifeLaws

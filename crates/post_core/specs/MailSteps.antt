@@ -1,5 +1,5 @@
 -- The steps on the mailbox: the views after them, and what each tells the seat that takes it.
-use Rattle.std.specs.Prelude.{◌≡◌, ◌≢◌, ℕ, zero, suc, ◌+◌, ◌-◌, ◌*◌, ◌^◌, ◌<◌, true, Some, None, slice_index, slice_set, if◌then◌else◌}
+use Rattle.std.specs.Prelude.{◌≡◌, ◌≢◌, ℕ, zero, suc, ◌+◌, ◌-◌, ◌*◌, ◌/◌, ◌^◌, ◌<◌, true, Some, None, slice_index, slice_set, if◌then◌else◌}
 use Rattle.std.specs.Int.{trailing_zeros, w64}
 use Rattle.atomic_table.specs.Table.{Me, Step}
 use Rattle.task_ring.specs.Ring.{RingView}
@@ -39,6 +39,11 @@ module _ {M : Type 0} where
 -- the lowest place of this word of the mailbox, where the word is this number
 abbrev pub lowest_in : ℕ → ℕ → ℕ
 lowest_in word found = 64 * word + trailing_zeros w64 found
+
+-- The owner has found the words of the mailbox 0 in turn, up to the first that was not, and has taken the notice of p, the
+-- lowest place of that one.
+abbrev pub IsFirstNotice : {M : Type 0} → ℕ → View M → View M → Type 0
+IsFirstNotice p v after = (found : ℕ) × (found ≢ 0) × (p ≡ lowest_in (p / 64) found) × (after ≡ notice_taken p (notice_found p (words_empty (p / 64) v)))
 
 module _ {J M : Type 0} where
   -- a messenger adds its notice

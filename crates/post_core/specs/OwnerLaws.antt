@@ -1,6 +1,6 @@
 -- Each step of a messenger and of the owner is its event: it may come in the world that the table shows, and leaves the
 -- world that the table shows after it. A state is one that the table may have, with the view of the seat that steps.
-use Rattle.std.specs.Prelude.{◌≡◌, ◌≢◌, ℕ, ◌+◌, ◌/◌, ◌%◌, ◌^◌, ◌<◌, ◌==◌, IsTrue, Some, None, List, [], ◌∷◌, length, slice_index, bit_and, bit_or, if◌then◌else◌}
+use Rattle.std.specs.Prelude.{◌≡◌, ◌≢◌, ℕ, ◌+◌, ◌-◌, ◌/◌, ◌%◌, ◌^◌, ◌<◌, ◌==◌, IsTrue, Some, None, List, [], ◌∷◌, length, slice_index, bit_and, bit_or, if◌then◌else◌}
 use Rattle.std.specs.Int.{bit_not, w64}
 use mathlib.Core.Option.{some}
 use lib.ListN.{get_elem?}
@@ -17,6 +17,7 @@ use Rattle.proxy_laws.specs.Mailbox.{mail_words}
 use Rattle.proxy_laws.specs.Phases.{is_got, is_working}
 use Rattle.post_core.specs.declared.slots.Item.{Item}
 use Rattle.post_core.specs.declared.views.View.{View}
+use Rattle.post_core.specs.ClosingSteps.{none_left, own_dropped, some_left}
 use Rattle.post_core.specs.Kept.{listed}
 use Rattle.post_core.specs.MailSteps.{lowest_in, notice_found, notice_taken, word_empty}
 use Rattle.post_core.specs.Rule.{IsEvent, Shown}
@@ -24,7 +25,7 @@ use Rattle.post_core.specs.SendLaws.{OfEachPass}
 use Rattle.post_core.specs.ServingSteps.{at_serving, place_looked, place_received, serving_at}
 use Rattle.post_core.specs.Steps.{IsActiveHere, all_meant}
 use Rattle.post_core.specs.Views.{IsOwnerView, at_phase, job_settled, job_taken, owner_of, pass_of, turn_given, turn_taken}
-use Rattle.post_core.specs.Words.{mail_at, note_at, put_at, settled_at, taken_at, turn_at}
+use Rattle.post_core.specs.Words.{mail_at, note_at, put_at, refs_at, settled_at, taken_at, turn_at}
 
 -- the bit of p in its word of the mailbox
 abbrev pub mail_bit : ℕ → ℕ
@@ -139,3 +140,26 @@ module _ {J M : Type 0} (meaning : J → M) (suits : ℕ → Mark → M → Type
       → IsEvent meaning suits senders places s r (event.SettleCancelled p n)
       (stepped s (settled_at p) ((slice_index s.words (settled_at p) + 1) % 2 ^ 64)
       id held (job_settled p n fate.Cancelled v) keeps))
+
+  -- a fetch sub of the references, by an open owner
+  abbrev pub DropsOwn : Type 0
+  DropsOwn = OfEachOwner (λ senders places s r id v held. (owner_of v).state ≡ owner.Open
+      → IsEvent meaning suits senders places s r event.DropOwn
+      (stepped s refs_at ((slice_index s.words refs_at + (2 ^ 64 - 1)) % 2 ^ 64) id held (own_dropped v) keeps))
+
+  -- a load of the references, by an owner that is closing: it is closed where it finds none
+  abbrev pub LooksClosed : Type 0
+  LooksClosed = OfEachOwner (λ senders places s r id v held. (count : ℕ)
+      → (owner_of v).state ≡ owner.Closing → slice_index s.words refs_at ≡ count
+      → (count ≡ 0 → IsEvent meaning suits senders places s r event.LookClosed
+      (stepped s refs_at count id held (none_left v) keeps))
+      × (count ≢ 0 → IsEvent meaning suits senders places s r event.LookClosed
+      (stepped s refs_at count id held (some_left count v) keeps)))
+
+  -- a store of none in the note of a place that a closed owner works at with the turn, where no job waits in the ring
+  abbrev pub ResetsPlace : Type 0
+  ResetsPlace = OfEachOwner (λ senders places s r id v held. (p : ℕ)
+      → p < places → (owner_of v).state ≡ owner.Closed → (owner_of v).turn ≡ Some p → IsWorkingAt p v
+      → (owner_of v).ring ≡ []
+      → IsEvent meaning suits senders places s r (event.ResetPlace p)
+      (stepped s (note_at p) 0 id held (at_serving p serving.Away v) keeps))

@@ -4,12 +4,14 @@ use Rattle.post_core.specs.declared.records.PlaceJobs.{PlaceJobs}
 use Rattle.post_core.specs.declared.owner.Taken.{Taken}
 use Rattle.post_core.specs.declared.owner.Taken.TheVariants as taken
 use Rattle.post_core.specs.Kept.{listed}
+use Rattle.post_core.specs.SendParts.{HasPlace}
 use Rattle.post_core.specs.ServingSteps.{job_started, place_emptied}
+use Rattle.post_core.specs.Steps.{IsActiveHere}
 use Rattle.post_core.specs.Views.{owner_of}
-use Rattle.std.specs.Prelude.{◌≡◌, ◌≢◌, ℕ, ◌/◌}
+use Rattle.std.specs.Prelude.{◌≡◌, ℕ}
 use Rattle.post_core.specs.declared.owner.Noticed.{Noticed}
 use Rattle.post_core.specs.declared.owner.Noticed.TheVariants as noticed
-use Rattle.post_core.specs.MailSteps.{lowest_in, notice_found, notice_taken, words_empty}
+use Rattle.post_core.specs.MailSteps.{IsFirstNotice, words_empty}
 use Rattle.post_core.specs.declared.meant.Meant.{Ghosts}
 use Rattle.post_core.specs.declared.owner.Emptied.{Emptied}
 use Rattle.post_core.specs.declared.owner.Exec.{Exec}
@@ -68,7 +70,7 @@ module _ {J M : Type 0} {g : Ghosts J M} where
 
   -- The words of the mailbox were found 0 in turn, up to the first that was not, whose lowest place was got.
   abbrev pub IsNextNotice : Post J M → View M → Noticed J M g → Type 0
-  IsNextNotice post v (noticed.Got got) = IsGotOf post got × ((found : ℕ) × (found ≢ 0) × (got_place got ≡ lowest_in (got_place got / 64) found) × (got_view got ≡ notice_taken (got_place got) (notice_found (got_place got) (words_empty (got_place got / 64) v))))
+  IsNextNotice post v (noticed.Got got) = IsGotOf post got × HasPlace post (got_place got) × IsFirstNotice (got_place got) v (got_view got)
   IsNextNotice post v (noticed.Nothing owner) = IsOwnerOf post owner × (owner_view owner ≡ words_empty 4 v)
 
   -- the execution stands as it did, but perhaps for its room
@@ -80,8 +82,8 @@ module _ {J M : Type 0} {g : Ghosts J M} where
   abbrev pub exec_room : Exec J M g → ℕ
   exec_room exec = room_here (slice_get exec.hold.jobs.items exec.place)
 
-  -- The first job that waited was taken under the number next to those taken before, and suits its mark; or as many
-  -- were taken as were put.
+  -- The first job that waited was taken under the number next to those taken before, suits its mark, and is active; or as
+  -- many were taken as were put.
   abbrev pub IsTaken : Post J M → ℕ → View M → Taken J M g → Type 0
-  IsTaken post place v (taken.Job exec nth mark job) = IsExecOf post exec × (nth ≡ length (listed (owner_of v).jobs place)) × g.suits post.target place mark (g.meaning job) × (exec_place exec ≡ place) × (exec_view exec ≡ job_started place (record { mark = mark; meaning = g.meaning job }) v)
+  IsTaken post place v (taken.Job exec nth mark job) = IsExecOf post exec × (nth ≡ length (listed (owner_of v).jobs place)) × g.suits post.target place mark (g.meaning job) × (exec_place exec ≡ place) × (exec_view exec ≡ job_started place (record { mark = mark; meaning = g.meaning job }) v) × IsActiveHere (listed (owner_of (exec_view exec)).jobs place) nth
   IsTaken post place v (taken.Empty seen) = IsSeenEmptyOf post seen × (seen_place seen ≡ place) × (seen_view seen ≡ place_emptied place v)

@@ -30,7 +30,9 @@ module _ {M : Type 0} where
   -- keeps these jobs by place, and no job that it took once it was closed is active.
   pub record IsEmptied (started : List (List StartedJob)) (taken : List ℕ) (v : View M) : Type 0 where
     pub view : IsOwnerView v
+    pub state : (owner_of v).state ≡ owner.Closed
     pub no_turn : (owner_of v).turn ≡ None
+    pub rows : length (owner_of v).jobs ≡ length taken
     pub away : (p : ℕ) → slice_index_or (owner_of v).serving p serving.Away ≡ serving.Away
     pub clear : (word : ℕ) → word < 4 → slice_index_or (owner_of v).clear word false ≡ true
     pub kept : (p : ℕ) → p < length taken → IsKept (listed (owner_of v).jobs p) (listed started p) (slice_index taken p)
@@ -49,6 +51,7 @@ module _ {M : Type 0} where
     pub got_is : (owner_of v).got ≡ got
     pub wide : length (owner_of v).serving ≡ length taken
     pub rows : length (owner_of v).jobs ≡ length taken
+    pub words : length (owner_of v).clear ≡ 4
     pub kept : KeepsAll started taken v
 
   -- it works nowhere

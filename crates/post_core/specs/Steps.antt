@@ -1,7 +1,7 @@
 -- What each step of a table tells the seat that takes it.
 use Rattle.atomic_table.specs.Seated.{TableId}
 use Rattle.post_core.specs.Words.{word_count}
-use Rattle.std.specs.Prelude.{◌≡◌, ℕ, ◌<◌, Some, None, List, length, slice_get, map, ◌≢◌, ◌∷◌}
+use Rattle.std.specs.Prelude.{◌≡◌, ℕ, ◌^◌, ◌<◌, Some, None, List, [], length, slice_get, map, ◌≢◌, ◌∷◌}
 use Rattle.atomic_table.specs.Table.{Me, Step, rest}
 use Rattle.task_ring.specs.Ring.{RingView}
 use Rattle.post_core.specs.declared.slots.Item.{Item}
@@ -25,7 +25,7 @@ module _ {J M : Type 0} where
   -- The plays. Each says the whole of the seat after.
   -- the owner counts the first job of p's ring as taken, which suits its mark
   abbrev pub took_job : (ℕ → Mark → M → Type 0) → ℕ → Step (RingView (Item J)) → Me (RingView (Item J)) (View M) → ℕ → Me (RingView (Item J)) (View M) → Type 0
-  took_job suits p st m found m' = (found ≡ length (listed (owner_of m.0).jobs p)) × FirstSuits (suits p) (owner_of m.0).ring × (m' ≡ (job_taken p m.0, m.1))
+  took_job suits p st m found m' = (found ≡ length (listed (owner_of m.0).jobs p)) × (found < 2 ^ 63) × FirstSuits (suits p) (owner_of m.0).ring × (m' ≡ (job_taken p m.0, m.1))
 
   -- the owner settles job number n of p
   abbrev pub settled_job : ℕ → ℕ → FateMark → Step (RingView (Item J)) → Me (RingView (Item J)) (View M) → ℕ → Me (RingView (Item J)) (View M) → Type 0
@@ -51,6 +51,10 @@ module _ {J M : Type 0} (meaning : J → M) where
   -- the owner tries to take the turn of p, and has its ring where that was free
   abbrev pub took_place : ℕ → Step (RingView (Item J)) → Me (RingView (Item J)) (View M) → ℕ → Me (RingView (Item J)) (View M) → Type 0
   took_place p st m found m' = (found ≡ 0 → HasTakenTurn p m m') × (found ≢ 0 → m' ≡ m)
+
+-- the owner has taken the turn of p, and no job waits in its ring
+abbrev pub HasEmptyTurn : {J M : Type 0} → ℕ → View M → Me (RingView (Item J)) (View M) → Type 0
+HasEmptyTurn {J} p v m = (ring : RingView (Item J)) × (ring.items ≡ []) × (m ≡ (turn_taken p [] v, (p, ring) ∷ []))
 
 -- the owner gives the turn back with the slot that it took last
 abbrev pub gave_place : {J M : Type 0} → Step (RingView (Item J)) → Me (RingView (Item J)) (View M) → ℕ → Me (RingView (Item J)) (View M) → Type 0

@@ -3,12 +3,12 @@
 ghost use Rattle.std.specs.Prelude.{◌≡◌, ℕ, ◌<◌, All, map, length, IfOk, IfErr};
 ghost use Rattle.std.specs.Slots.{slots_items, IsFull};
 ghost use Rattle.proxy_laws.specs.Fates.{LawfulPost, jobs_of};
-ghost use Rattle.post_core.specs.Ending.{AgreesWithPass, AreAllParts, AreEach, Ended, FoundTaken, IsIdle, all_joined};
+ghost use Rattle.post_core.specs.Ending.{AgreesWithPass, AreAllParts, Ended, FoundTaken, IsIdle, all_joined};
 ghost use Rattle.post_core.specs.Kept.{listed};
 ghost use Rattle.post_core.specs.Making.{IsMade};
 ghost use Rattle.post_core.specs.OwnerViews.{emptied_view};
 ghost use Rattle.post_core.specs.Records.{AreSettled, held_record};
-ghost use Rattle.post_core.specs.SendParts.{pass_sender, pass_view, post_places, post_senders, post_target};
+ghost use Rattle.post_core.specs.SendParts.{pass_view, post_places, post_senders, post_target};
 ghost use Rattle.post_core.specs.Views.{owner_of};
 
 use crate::gathering::gather;
@@ -133,8 +133,7 @@ pub fn close<J: Meant>(
         → jobs_of r p ≡ map held_record (listed (owner_of (emptied_view emptied)).jobs p)) }
     ensures passes { IfOk result
         (λ r. All (λ pass. AgreesWithPass r (pass_view pass)) passes.items) }
-    ensures found { AreEach (post_senders post) (map (λ pass. pass_sender pass) passes.items)
-        → IfOk result (λ r. All (λ pass. FoundTaken
+    ensures found { IfOk result (λ r. All (λ pass. FoundTaken
         (map (λ other. pass_view other) passes.items) (pass_view pass)) passes.items) }
     ensures err { IfErr result (λ back. (back.post ≡ post) × (back.emptied ≡ emptied)
         × (back.passes ≡ passes) × (back.uses ≡ uses)) }

@@ -1,6 +1,6 @@
 //! The step by which the owner takes a job.
 
-ghost use Rattle.std.specs.Prelude.{◌≡◌, ℕ, ◌<◌, Some, length};
+ghost use Rattle.std.specs.Prelude.{◌≡◌, ℕ, ◌^◌, ◌<◌, Some, length};
 ghost use Rattle.post_core.specs.Kept.{listed};
 ghost use Rattle.post_core.specs.ServingSteps.{WorksAt};
 ghost use Rattle.post_core.specs.Steps.{FirstSuits, IsOneTable, took_job};
@@ -45,6 +45,7 @@ fn start_job_as<J: Meant, P: AtTarget>(
     requires waits { 0 < length (owner_of seat.old.me.0).ring }
     ensures seat { (seat.new.table_id ≡ seat.old.table_id) × (seat.new.id ≡ seat.old.id) }
     ensures nth { result ≡ length (listed (owner_of seat.old.me.0).jobs place) }
+    ensures few { result < 2 ^ 63 }
     ensures suits { FirstSuits (J.suits shared.now.key.target place) (owner_of seat.old.me.0).ring }
     ensures taken { seat.new.me ≡ (job_taken place seat.old.me.0, seat.old.me.1) }
 {
@@ -64,6 +65,7 @@ pub(crate) fn start_job<J: Meant>(
     requires waits { 0 < length (owner_of seat.old.me.0).ring }
     ensures seat { (seat.new.table_id ≡ seat.old.table_id) × (seat.new.id ≡ seat.old.id) }
     ensures nth { result ≡ length (listed (owner_of seat.old.me.0).jobs place) }
+    ensures few { result < 2 ^ 63 }
     ensures suits { FirstSuits (J.suits shared.now.key.target place) (owner_of seat.old.me.0).ring }
     ensures taken { seat.new.me ≡ (job_taken place seat.old.me.0, seat.old.me.1) }
 {

@@ -1,6 +1,10 @@
 //! One table for each target of the proxying layer: what senders, the owner and places share.
 #![tactic(auto)]
 
+mod cancelling;
+mod closing;
+mod closing_owner;
+mod closing_steps;
 mod ending;
 mod first_job;
 mod gathering;
@@ -31,6 +35,7 @@ mod turns;
 mod uses;
 mod views;
 
+pub use closing_owner::{CancelNext, Closed, Closing, ClosingLook};
 pub use ending::{CloseBack, close, discard, unmake};
 pub use laws::{
     add_ref_is_its_event, claim_is_its_event, clone_use_is_its_event, create_is_its_event,
@@ -43,10 +48,11 @@ pub use making::{Made, make};
 pub use meant::Meant;
 pub use owner::{Emptied, Exec, Got, Noticed, Owner, SeenEmpty, Taken};
 pub use owner_laws::{
-    add_mail_is_its_event, direct_is_its_event, finish_is_its_event, look_mail_is_its_event,
+    add_mail_is_its_event, closed_has_no_sender, direct_is_its_event, drop_own_is_its_event,
+    emptied_has_nothing, finish_is_its_event, look_closed_is_its_event, look_mail_is_its_event,
     look_place_is_its_event, owner_give_place_is_its_event, owner_take_place_is_its_event,
-    receive_is_its_event, settle_cancelled_is_its_event, settle_finished_is_its_event,
-    take_job_is_its_event, take_notice_is_its_event,
+    receive_is_its_event, reset_place_is_its_event, settle_cancelled_is_its_event,
+    settle_finished_is_its_event, take_job_is_its_event, take_notice_is_its_event,
 };
 pub use post::{Notice, Owing, PlaceUse, Post, RefPass, SeenNote, SendPass};
 pub use send_answers::{Notified, PutAnswer, RefAnswer};

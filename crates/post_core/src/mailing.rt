@@ -1,10 +1,10 @@
 //! The steps on the mailbox: a messenger adds its notice, the owner looks for notices and takes them.
 
-ghost use Rattle.std.specs.Prelude.{◌≡◌, ◌≢◌, ℕ, ◌^◌, ◌<◌, Some};
+ghost use Rattle.std.specs.Prelude.{◌≡◌, ◌≢◌, ℕ, ◌^◌, ◌<◌, IfSome, IsNone, Some};
 ghost use Rattle.proxy_laws.specs.declared.actors.OwnerState.TheVariants.{Closing};
 ghost use Rattle.proxy_laws.specs.declared.actors.Phase.TheVariants.{Messenger, Referenced};
 ghost use Rattle.proxy_laws.specs.declared.actors.Serving.TheVariants.{Away};
-ghost use Rattle.post_core.specs.MailSteps.{added_mail, looked_mail, lowest_in, notice_found, notice_taken, took_notice, word_empty};
+ghost use Rattle.post_core.specs.MailSteps.{IsFirstNotice, added_mail, looked_mail, lowest_in, notice_found, notice_taken, took_notice, word_empty, words_empty};
 ghost use Rattle.post_core.specs.ServingSteps.{serving_at};
 ghost use Rattle.post_core.specs.Steps.{IsOneTable};
 ghost use Rattle.post_core.specs.Views.{IsOwnerView, IsPassView, at_phase, owner_of, pass_of};
@@ -87,4 +87,30 @@ pub(crate) fn take_notice<J: Meant>(
     ensures few { (owner_of seat.old.me.0).got < 2 ^ 63 }
 {
     shared.fetch_and::<TakeNotice>(seat, 257 + place as usize / 64, !(1 << (place % 64)));
+}
+
+/// Looks into the words of the mailbox in turn, up to the first that is not 0, and takes the notice of its lowest place.
+pub(crate) fn first_notice<J: Meant>(
+    shared: &Shared<Ring<Item<J>>, View<J::Meaning>, Sizes, Law<J>>,
+    seat: &mut Seat<Ring<Item<J>>, View<J::Meaning>>,
+) -> Option<u32>
+    requires table { IsOneTable seat.old.table_id shared.now.table_id shared.now.key.places }
+    requires owner { IsOwnerView seat.old.me.0 × ((owner_of seat.old.me.0).state ≢ Closing) }
+    requires away { (p : ℕ) → serving_at p seat.old.me.0 ≡ Away }
+    ensures seat { (seat.new.table_id ≡ seat.old.table_id) × (seat.new.id ≡ seat.old.id)
+        × (seat.new.me.1 ≡ seat.old.me.1) }
+    ensures some { IfSome result (λ place. IsFirstNotice place seat.old.me.0 seat.new.me.0) }
+    ensures there { IfSome result (λ place. place < seat.old.table_id.slots) }
+    ensures few { IfSome result (λ place. (owner_of seat.old.me.0).got < 2 ^ 63) }
+    ensures none { IsNone result → seat.new.me.0 ≡ words_empty 4 seat.old.me.0 }
+{
+    for word in 0..4 {
+        let found = look_mail(shared, seat, word);
+        if found != 0 {
+            let place = 64 * word + found.trailing_zeros();
+            take_notice(shared, seat, place);
+            return Some(place);
+        }
+    }
+    None
 }

@@ -6,9 +6,9 @@ ghost use Rattle.post_core.specs.OwnerViews.{IsExecOf, IsGotOf, IsNextNotice, Is
 ghost use Rattle.post_core.specs.SendParts.{HasPlace, use_place};
 ghost use Rattle.post_core.specs.ServingSteps.{at_serving, place_received};
 
-use crate::mailing::{look_mail, take_notice};
+use crate::mailing::first_notice;
 use crate::meant::Meant;
-use crate::owner::{Exec, Got, Noticed, Owner, OwnerHold};
+use crate::owner::{Exec, Got, Noticed, Owner};
 use crate::post::{PlaceUse, Post};
 use crate::serving::{begin_direct, receive_note};
 use proxy_laws::Started;
@@ -21,40 +21,14 @@ impl<J: Meant> Owner<J> {
         requires { IsOwnerOf post.now self }
         ensures { IsNextNotice post.now (owner_view self) result }
     {
-        let Owner { hold } = self;
-        let OwnerHold {
-            mut seat,
-            target,
-            jobs,
-            got,
-            parker,
-        } = hold;
-        for word in 0..4 {
-            let found = look_mail(&post.table.shared, &mut seat, word);
-            if found != 0 {
-                let place = 64 * word + found.trailing_zeros();
-                take_notice(&post.table.shared, &mut seat, place);
-                return Noticed::Got(Got {
-                    hold: OwnerHold {
-                        seat,
-                        target,
-                        jobs,
-                        got: got + 1,
-                        parker,
-                    },
-                    place,
-                });
+        let Owner { mut hold } = self;
+        match first_notice(&post.table.shared, &mut hold.seat) {
+            Some(place) => {
+                hold.got += 1;
+                Noticed::Got(Got { hold, place })
             }
+            None => Noticed::Nothing(Owner { hold }),
         }
-        Noticed::Nothing(Owner {
-            hold: OwnerHold {
-                seat,
-                target,
-                jobs,
-                got,
-                parker,
-            },
-        })
     }
 }
 

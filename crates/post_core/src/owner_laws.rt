@@ -2,7 +2,8 @@
 //! functions do nothing: what is proved stands in their contracts.
 
 ghost use Rattle.std.specs.Prelude.{ℕ};
-ghost use Rattle.post_core.specs.OwnerLaws.{AddsMail, BeginsDirect, FinishesPlace, LooksMail, LooksPlace, OwnerGivesPlace, OwnerTakesPlace, ReceivesNote, SettlesCancelled, SettlesFinished, TakesJob, TakesNotice};
+ghost use Rattle.post_core.specs.EndLaws.{ClosedHasNoSender, EmptiedHasNothing};
+ghost use Rattle.post_core.specs.OwnerLaws.{AddsMail, BeginsDirect, DropsOwn, FinishesPlace, LooksClosed, LooksMail, LooksPlace, OwnerGivesPlace, OwnerTakesPlace, ReceivesNote, ResetsPlace, SettlesCancelled, SettlesFinished, TakesJob, TakesNotice};
 
 use crate::meant::Meant;
 
@@ -64,4 +65,29 @@ pub fn settle_finished_is_its_event<J: Meant>()
 /// A fetch add of the jobs settled, by a closed owner, is SettleCancelled.
 pub fn settle_cancelled_is_its_event<J: Meant>()
     ensures { (target : ℕ) → SettlesCancelled J.meaning (J.suits target) }
+{}
+
+/// A fetch sub of the owner's reference is DropOwn.
+pub fn drop_own_is_its_event<J: Meant>()
+    ensures { (target : ℕ) → DropsOwn J.meaning (J.suits target) }
+{}
+
+/// A load of the references by a closing owner is LookClosed.
+pub fn look_closed_is_its_event<J: Meant>()
+    ensures { (target : ℕ) → LooksClosed J.meaning (J.suits target) }
+{}
+
+/// A closed owner's store of none in a note is ResetPlace.
+pub fn reset_place_is_its_event<J: Meant>()
+    ensures { (target : ℕ) → ResetsPlace J.meaning (J.suits target) }
+{}
+
+/// Once the owner is closed no sender has or gets a reference, puts, swaps a note or adds a notice, whatever comes.
+pub fn closed_has_no_sender<J: Meant>()
+    ensures { (target : ℕ) → ClosedHasNoSender J.meaning (J.suits target) }
+{}
+
+/// Where a closed owner is at no place and has found each word of the mailbox 0 since, no job waits at any place.
+pub fn emptied_has_nothing<J: Meant>()
+    ensures { (target : ℕ) → EmptiedHasNothing J.meaning (J.suits target) }
 {}

@@ -1,9 +1,9 @@
 //! The owner settles jobs that it took.
 
 ghost use Rattle.std.specs.Prelude.{◌≡◌, ◌<◌, Some, length, slice_set};
-ghost use Rattle.proxy_laws.specs.declared.records.FateMark.TheVariants.{Finished};
+ghost use Rattle.proxy_laws.specs.declared.records.FateMark.TheVariants.{Cancelled, Finished};
 ghost use Rattle.post_core.specs.Kept.{listed};
-ghost use Rattle.post_core.specs.OwnerViews.{IsExecOf, IsOwnerOf, exec_place, exec_view, owner_view};
+ghost use Rattle.post_core.specs.OwnerViews.{IsEmptiedOf, IsExecOf, IsOwnerOf, emptied_view, exec_place, exec_view, owner_view};
 ghost use Rattle.post_core.specs.Parts.{kept_settled};
 ghost use Rattle.post_core.specs.Records.{counts_of, starts_of};
 ghost use Rattle.post_core.specs.SendParts.{HasPlace, IsNoteOf, note_view};
@@ -11,7 +11,7 @@ ghost use Rattle.post_core.specs.Steps.{IsActiveHere};
 ghost use Rattle.post_core.specs.Views.{job_settled, noted, owner_of};
 
 use crate::meant::Meant;
-use crate::owner::{Exec, Owner};
+use crate::owner::{Emptied, Exec, Owner};
 use crate::post::{Post, SeenNote};
 use crate::records::PlaceJobs;
 use crate::settle_steps::settle;
@@ -55,6 +55,23 @@ impl<J: Meant> Exec<J> {
         ensures owner { IsExecOf post.now self.new × (exec_place self.new ≡ exec_place self.old)
             × (exec_view self.new ≡ job_settled place nth Finished (exec_view self.old)) }
         ensures note { IsNoteOf post.now result × (note_view result ≡ noted (exec_view self.new)) }
+    {
+        let note = settle(&post.table.shared, &mut self.hold.seat, place, nth, fate);
+        keep_fate(&mut self.hold.jobs, place, nth, fate);
+        SeenNote { seat: note }
+    }
+}
+
+impl<J: Meant> Emptied<J> {
+    /// Settles a job that it took before it closed and that is not settled. It is cancelled, and the note has seen that.
+    pub fn settle(&mut self, post: &Post<J>, place: u32, nth: u64, fate: FateMark) -> SeenNote<J>
+        requires table { IsEmptiedOf post.now self.old }
+        requires near { HasPlace post.now place }
+        requires active { IsActiveHere (listed (owner_of (emptied_view self.old)).jobs place) nth }
+        requires cancelled { fate ≡ Cancelled }
+        ensures owner { IsEmptiedOf post.now self.new
+            × (emptied_view self.new ≡ job_settled place nth Cancelled (emptied_view self.old)) }
+        ensures note { IsNoteOf post.now result × (note_view result ≡ noted (emptied_view self.new)) }
     {
         let note = settle(&post.table.shared, &mut self.hold.seat, place, nth, fate);
         keep_fate(&mut self.hold.jobs, place, nth, fate);

@@ -35,6 +35,7 @@ const ONE_USE: u64 = 3;
 const NO_NOTE: u64 = 0;
 
 /// What a release of a use comes to.
+#[derive(Clone, Copy, Debug, PartialEq, Eq)]
 pub enum Released {
     /// Another use of the place is left.
     Kept,

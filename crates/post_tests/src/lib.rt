@@ -2,4 +2,18 @@
 #![tactic(auto)]
 
 #[cfg(test)]
+mod beside;
+#[cfg(test)]
+mod hostile;
+#[cfg(test)]
 mod making;
+#[cfg(test)]
+mod owning;
+#[cfg(test)]
+mod places;
+#[cfg(test)]
+mod records;
+#[cfg(test)]
+mod scenes;
+#[cfg(test)]
+mod sending;

@@ -1,7 +1,7 @@
 use Rattle.std.proofs.Common.{subst}
 use Rattle.std.specs.Slots.{slots_items}
 use Rattle.post_core.specs.Ending.{IsIdle}
-use Rattle.post_core.proofs.Closed.{get_at}
+use Rattle.post_core.proofs.Ended.{get_at}
 use Rattle.post_core.proofs.ending.free_rings.Goals as goal
 
 pub close-requires : goal.close-requires

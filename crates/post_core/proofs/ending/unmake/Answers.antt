@@ -3,7 +3,7 @@ use mathlib.Core.Option.{some}
 use Rattle.std.specs.Slots.{slots_items}
 use Rattle.post_core.specs.Ending.{all_joined}
 use Rattle.post_core.specs.Making.{AreDealt, dealing_view}
-use Rattle.post_core.proofs.Closed.{fresh_complete, fresh_done, fresh_there, rings_idle}
+use Rattle.post_core.proofs.Ended.{fresh_complete, fresh_done, fresh_there, rings_idle}
 use Rattle.post_core.proofs.ending.unmake.Goals as goal
 
 pub free_rings-requires-clause-idle : goal.free_rings-requires-clause-idle

@@ -1,12 +1,14 @@
-use Rattle.std.proofs.Common.{None, ◌<◌, ◌+◌, ◌++◌, ◌∷◌, [], length, map, refl, arith, ap, sym, subst, ◌∙◌}
-use Rattle.std.specs.Prelude.{slice_set, slice_index}
+use Rattle.std.proofs.Common.{◌<◌, ◌+◌, length, map, refl, arith, ap, sym, subst, ◌∙◌}
+use Rattle.std.specs.Prelude.{slice_index}
 use Rattle.std.proofs.lemmas.List.{length-map, length-set}
 use Rattle.proxy_laws.specs.Phases.{serving_after_look}
 use Rattle.post_core.specs.declared.views.Entry.{Entry}
-use Rattle.post_core.specs.ServingSteps.{job_started}
 use Rattle.post_core.specs.Kept.{listed}
 use Rattle.post_core.specs.Parts.{IsOwnerAt, serving_of}
+use Rattle.post_core.specs.Steps.{IsActiveHere}
+use Rattle.post_core.specs.Views.{owner_of}
 use Rattle.post_core.proofs.OwnerAt.{empties, starts_job}
+use Rattle.post_core.proofs.OwnerEnds.{taken_is_active}
 use Rattle.post_core.proofs.owner.Exec.take.Goals as goal
 
 pub invariant_of-result : goal.invariant_of-result
@@ -36,3 +38,17 @@ invariant_of-result-in-None g c =
       empty = (ap (λ me. me.1) me_is, c.args.self.empty.1 ∙ ap (λ t. t.slots) (sym c.first_job.ensures.seat.0));
       near = subst (λ t. c.args.self.place < t.slots) (sym c.first_job.ensures.seat.0) c.args.self.near;
     }
+
+pub returns-in-Some : goal.returns-in-Some
+returns-in-Some g c =
+    let self = c.args.self in
+    let found = c.in-Some.ensures in
+    let entry : Entry g.row.J-Meaning.Denot = record { mark = c.in-Some.field-0-1.mark; meaning = g.J.Meant.meaning c.in-Some.field-0-1.job } in
+    let row : self.place < length (owner_of self.hold.seat.me.0).jobs = let a = self.is_exec.stands.rows in let b = self.empty.1 in let d = self.near in omega (arith, length-map self.hold.jobs.items (λ place. place.taken)) in (
+      found.seat.0 ∙ c.requires.table,
+      found.nth,
+      subst (λ key. g.J.Meant.suits key.target self.place entry.mark entry.meaning) c.args.post.now.key found.suits,
+      refl,
+      ap (λ me. me.0) found.job,
+      subst (λ u. IsActiveHere (listed (owner_of u).jobs self.place) c.in-Some.nth) (sym (ap (λ me. me.0) found.job)) (taken_is_active self.hold.seat.me.0 self.place c.in-Some.nth entry row found.nth),
+    )

@@ -1,0 +1,11 @@
+use Rattle.std.proofs.Common.{arith}
+use Rattle.post_core.proofs.Takings.{drop_own_allowed}
+use Rattle.post_core.proofs.closing_steps.drop_own.Goals as goal
+
+pub fetch_sub-requires : goal.fetch_sub-requires
+fetch_sub-requires g c =
+    let key = c.args.shared.now.key in let me = c.args.seat.now.me in (
+      c.requires.table.0,
+      (let a = c.requires.table.1 in omega arith),
+      drop_own_allowed g.J.Meant.meaning (g.J.Meant.suits key.target) key.senders key.places c.args.shared.now.table_id.slots c.args.seat.now.id me.0 me.1 c.requires.owner.0 c.requires.owner.1,
+    )

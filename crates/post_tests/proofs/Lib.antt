@@ -1,0 +1,4 @@
+pub mod HeldJobs
+pub mod Lines
+pub mod PlaceUses
+pub mod Senders

@@ -1,0 +1,4 @@
+pub mod Beside
+pub mod Hostile
+pub mod Places
+pub mod Scenes

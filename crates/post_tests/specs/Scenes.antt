@@ -1,0 +1,47 @@
+-- What the tests know of the parts of a target between two calls.
+use Rattle.std.specs.Prelude.{◌≡◌, ◌≢◌, ℕ, ◌<◌, All, Option, Some, None, List, [], ◌∷◌, length, map, slice_index_or}
+use Rattle.post_core.specs.declared.meant.Meant.{Ghosts}
+use Rattle.post_core.specs.declared.post.PlaceUse.{PlaceUse}
+use Rattle.post_core.specs.declared.post.Post.{Post}
+use Rattle.post_core.specs.declared.post.SendPass.{SendPass}
+use Rattle.post_core.specs.declared.views.Held.{Held}
+use Rattle.post_core.specs.declared.views.View.{View}
+use Rattle.post_core.specs.Ending.{AreEach}
+use Rattle.post_core.specs.Kept.{listed}
+use Rattle.post_core.specs.SendParts.{HasPlace, IsPassOf, IsUseOf, pass_sender, pass_view, post_senders, use_place}
+use Rattle.post_core.specs.Steps.{IsActiveHere}
+use Rattle.post_core.specs.Views.{owner_of, pass_of}
+
+module _ {M : Type 0} where
+  -- a pass has the uses of places that it had
+  abbrev pub KeepsUses : View M → View M → Type 0
+  KeepsUses v w = ((pass_of w).number ≡ (pass_of v).number) × ((pass_of w).uses ≡ (pass_of v).uses)
+
+  -- Of the jobs that were taken, the one of this number at place 0 is active, if there is a number, and no other.
+  pub record AreHeld (held : Option ℕ) (jobs : List (List (Held M))) : Type 0 where
+    pub here : (n : ℕ) → held ≡ Some n → IsActiveHere (listed jobs 0) n
+    pub others : (p n : ℕ) (d : Held M) → n < length (listed jobs p) → (p ≡ 0 → held ≢ Some n) → (slice_index_or (listed jobs p) n d).fate ≢ None
+
+  abbrev pub HasHeld : Option ℕ → View M → Type 0
+  HasHeld held v = AreHeld held (owner_of v).jobs
+
+module _ {J M : Type 0} where
+  -- the pass with this view may put at the place of the use
+  abbrev pub MayPut : Post J M → View M → PlaceUse J → Type 0
+  MayPut post v place_use = HasPlace post (use_place place_use) × IsUseOf post v place_use
+
+module _ {J M : Type 0} {g : Ghosts J M} where
+  -- the pass may send to the place of the use
+  abbrev pub MaySend : Post J M → SendPass J M g → PlaceUse J → Type 0
+  MaySend post pass place_use = IsPassOf post pass × MayPut post (pass_view pass) place_use
+
+  -- each pass may send to the place of its use
+  abbrev pub MayAllSend : Post J M → List (SendPass J M g) → List (PlaceUse J) → Type 0
+  MayAllSend post [] [] = Unit {0}
+  MayAllSend post [] (u ∷ us) = ⊥
+  MayAllSend post (p ∷ ps) [] = ⊥
+  MayAllSend post (p ∷ ps) (u ∷ us) = MaySend post p u × MayAllSend post ps us
+
+  -- these are the passes of the post's senders, in order
+  abbrev pub AreAllPasses : Post J M → List (SendPass J M g) → Type 0
+  AreAllPasses post passes = All (λ pass. IsPassOf post pass) passes × AreEach (post_senders post) (map (λ pass. pass_sender pass) passes)
