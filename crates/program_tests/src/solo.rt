@@ -23,6 +23,22 @@ fn run_on(alloc: Global, input: &[u8]) -> Result<(RunStatus, MemSink), AllocErro
     Ok((status, out))
 }
 
+/// A text with one piece of it repeated.
+fn repeated(
+    alloc: Global,
+    head: &str,
+    piece: &str,
+    count: u32,
+    tail: &str,
+) -> Result<String, AllocError> {
+    let mut text = String::from_str(alloc, head)?;
+    for _ in 0..count {
+        text.push_str(piece)?;
+    }
+    text.push_str(tail)?;
+    Ok(text)
+}
+
 #[test]
 fn short_inputs(rt: HostRuntime) -> Result<(), Fail> {
     let cases = [

@@ -65,19 +65,3 @@ fn expect(
     }
     script.run(rt, alloc)
 }
-
-/// A text with one piece of it repeated.
-fn repeated(
-    alloc: Global,
-    head: &str,
-    piece: &str,
-    count: u32,
-    tail: &str,
-) -> Result<String, AllocError> {
-    let mut text = String::from_str(alloc, head)?;
-    for _ in 0..count {
-        text.push_str(piece)?;
-    }
-    text.push_str(tail)?;
-    Ok(text)
-}

@@ -1,4 +1,4 @@
-use super::run_on;
+use super::{repeated, run_on};
 use std::alloc::{AllocError, Global};
 use std::process::Abort;
 use std::test::Fail;
@@ -22,22 +22,6 @@ fn replies(
     assert_eq!(rt; status, RunStatus::Done, "{call}");
     assert_eq!(rt; out.as_bytes(), text.as_bytes(), "{call}");
     Ok(())
-}
-
-/// A text with one piece of it repeated.
-fn long(
-    alloc: Global,
-    head: &str,
-    piece: &str,
-    count: u32,
-    tail: &str,
-) -> Result<String, AllocError> {
-    let mut text = String::from_str(alloc, head)?;
-    for _ in 0..count {
-        text.push_str(piece)?;
-    }
-    text.push_str(tail)?;
-    Ok(text)
 }
 
 fn stats(rt: &impl Abort, alloc: Global) -> Result<(), AllocError> {
@@ -164,7 +148,7 @@ fn limits(rt: &impl Abort, alloc: Global) -> Result<(), AllocError> {
         replies(
             rt,
             alloc,
-            long(alloc, head, piece, count, tail)?.as_str(),
+            repeated(alloc, head, piece, count, tail)?.as_str(),
             reply,
             TREE,
         )?;
@@ -173,11 +157,11 @@ fn limits(rt: &impl Abort, alloc: Global) -> Result<(), AllocError> {
 }
 
 fn long_made(rt: &impl Abort, alloc: Global) -> Result<(), AllocError> {
-    let name = long(alloc, "dir 0 /\ndir 1 a\ndir 2 b\ndir 1 ", "n", 255, "\n")?;
+    let name = repeated(alloc, "dir 0 /\ndir 1 a\ndir 2 b\ndir 1 ", "n", 255, "\n")?;
     replies(
         rt,
         alloc,
-        long(alloc, "mkdir /", "n", 255, "")?.as_str(),
+        repeated(alloc, "mkdir /", "n", 255, "")?.as_str(),
         "ok",
         name.as_str(),
     )?;
@@ -185,14 +169,14 @@ fn long_made(rt: &impl Abort, alloc: Global) -> Result<(), AllocError> {
     replies(
         rt,
         alloc,
-        long(alloc, "mkdir ", "/", 4094, "c")?.as_str(),
+        repeated(alloc, "mkdir ", "/", 4094, "c")?.as_str(),
         "ok",
         tree,
     )?;
     replies(
         rt,
         alloc,
-        long(alloc, "mkdir ", "/..", 255, "/c")?.as_str(),
+        repeated(alloc, "mkdir ", "/..", 255, "/c")?.as_str(),
         "ok",
         tree,
     )

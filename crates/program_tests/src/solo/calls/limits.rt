@@ -1,4 +1,5 @@
-use super::{Script, repeated};
+use super::super::repeated;
+use super::Script;
 use std::test::Fail;
 
 /// 40 links are followed, and not 41.
