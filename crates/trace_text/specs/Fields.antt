@@ -113,7 +113,7 @@ unless_nul (Some text) = if has_no_nul text then Some text else None
 abbrev pub path_in : List ℕ → Option (List ℕ)
 path_in field = unless_nul (text_in field)
 
--- How a text is printed: exactly the other bytes are escape_is, with digits of upper case.
+-- How a text is printed: exactly the other bytes are escaped, with digits of upper case.
 
 abbrev pub hex_digit : ℕ → ℕ
 hex_digit value = if nat_lt value 10 then 48 + value else 55 + value

@@ -8,7 +8,7 @@ use Rattle.trace_text.specs.Traces.{Traced, nothing, is_declared, thread_number,
 use Rattle.trace_text.specs.Fields.{pieces_of, fields_of, is_skipped, label_in, is_label}
 use Rattle.trace_text.specs.Words.{Form, form_of, call_in}
 
--- The relation: what a line after line 1 says, behind the lines that statement_of `before`.
+-- The relation: what a line after line 1 says, behind the lines that said `before`.
 
 -- nothing
 abbrev pub Skips : Traced → List ℕ → Traced → Type 0
