@@ -60,9 +60,24 @@ fn short_inputs(rt: HostRuntime) -> Result<(), Fail> {
             "line 2: DuplicateName\n",
         ),
         (
-            "wasmfs-trace 1\nthread A\nB: stat /\n",
+            "wasmfs-trace 1\nthread A\nthread A\n",
+            RunStatus::Refused,
+            "line 3: DuplicateName\n",
+        ),
+        (
+            "wasmfs-trace 1\nthread A\nB: mkdir /a\n",
             RunStatus::Refused,
             "line 3: UnknownName\n",
+        ),
+        (
+            "wasmfs-trace 1\nthread A\nA: chmod /a 7\n",
+            RunStatus::Refused,
+            "line 3: UnknownWord\n",
+        ),
+        (
+            "wasmfs-trace 1\nthread A\nA: mkdir /a /b\n",
+            RunStatus::Refused,
+            "line 3: BadArgument\n",
         ),
         (
             "wasmfs-trace 1\nthread A\nA: stat %2f\n",
@@ -79,6 +94,33 @@ fn short_inputs(rt: HostRuntime) -> Result<(), Fail> {
         let (ended, out) = run_on(rt.alloc(), input.as_bytes())?;
         assert_eq!(rt; ended, status, "{input}");
         assert_eq!(rt; out.as_bytes(), text.as_bytes(), "{input}");
+    }
+    Ok(())
+}
+
+const WHOLE_TEXTS: [(&str, &str); 3] = [
+    (
+        "A: symlink l /l\nA: stat /l\nA: lstat /l\n",
+        "reply A 1 ok\nreply A 2 ELOOP\nreply A 3 ok link 1\ndir 0 /\nlink 1 l l\nend\n",
+    ),
+    (
+        "A: mkdir /a\nA: mkdir /a/b\nA: rename /a /a/b/c\nA: rename /a /a\n",
+        "reply A 1 ok\nreply A 2 ok\nreply A 3 EINVAL\nreply A 4 ok\ndir 0 /\ndir 1 a\ndir 2 b\nend\n",
+    ),
+    (
+        "backend m memory\nA: mkdir /a\nA: rename /a /m/a\nA: rmdir /m\nA: rename /m /b\nA: symlink a /l\nA: rename /l /m/l\nA: readlink /l\nA: list / 0\n",
+        "reply A 1 ok\nreply A 2 EXDEV\nreply A 3 EBUSY\nreply A 4 EBUSY\nreply A 5 ok\nreply A 6 EXDEV\nreply A 7 ok a\nreply A 8 ok a l m\ndir 0 /\ndir 1 a\nlink 1 l a\ndir 1 m\nend\n",
+    ),
+];
+
+#[test]
+fn whole_texts(rt: HostRuntime) -> Result<(), Fail> {
+    let alloc = rt.alloc();
+    for (calls, text) in WHOLE_TEXTS {
+        let input = format!(in alloc; "wasmfs-trace 1\nthread A\n{calls}")?;
+        let (status, out) = run_on(alloc, input.as_bytes())?;
+        assert_eq!(rt; status, RunStatus::Done);
+        assert_eq!(rt; out.as_bytes(), text.as_bytes());
     }
     Ok(())
 }
