@@ -11,7 +11,7 @@ use Rattle.post_core.specs.declared.post.PlaceUse.{PlaceUse}
 use Rattle.post_core.specs.declared.post.Post.{Post}
 use Rattle.post_core.specs.declared.post.SendPass.{SendPass}
 use Rattle.post_core.specs.SendParts.{IsPassOf, pass_sender, pass_view, post_senders}
-use Rattle.post_tests.specs.declared.beside.Line.{Line}
+use Rattle.post_tests.specs.declared.parts.Line.{Line}
 use Rattle.post_tests.specs.Beside.{AreLines, IsLine}
 use Rattle.post_tests.specs.Scenes.{AreAllPasses, KeepsUses, MayAllSend, MaySend}
 

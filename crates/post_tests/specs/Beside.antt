@@ -5,7 +5,7 @@ use Rattle.post_core.specs.declared.owner.Emptied.{Emptied}
 use Rattle.post_core.specs.declared.owner.Owner.{Owner}
 use Rattle.post_core.specs.declared.post.Post.{Post}
 use Rattle.post_core.specs.OwnerViews.{IsEmptiedOf, IsOwnerOf, emptied_view, owner_view}
-use Rattle.post_tests.specs.declared.beside.Line.{Line}
+use Rattle.post_tests.specs.declared.parts.Line.{Line}
 use Rattle.post_tests.specs.Scenes.{HasHeld, MaySend}
 
 -- the owner of the post, with no active job

@@ -3,8 +3,8 @@ use Rattle.std.specs.Prelude.{ℕ}
 use Rattle.post_core.specs.declared.post.PlaceUse.{PlaceUse}
 use Rattle.post_core.specs.declared.post.Post.{Post}
 use Rattle.post_core.specs.SendParts.{IsNoticeOf, IsOwingOf, IsPassOf, IsRefPassOf, notice_view, owing_view, pass_view, ref_view}
-use Rattle.post_tests.specs.declared.hostile.Hand.{Hand}
-use Rattle.post_tests.specs.declared.hostile.Hand.TheVariants as hand
+use Rattle.post_tests.specs.declared.parts.Hand.{Hand}
+use Rattle.post_tests.specs.declared.parts.Hand.TheVariants as hand
 use Rattle.post_tests.specs.Scenes.{MayPut}
 
 -- the sender can go on from there

@@ -6,7 +6,8 @@ ghost use Rattle.post_core.specs.SendParts.{IsPassOf, pass_view, post_senders};
 ghost use Rattle.post_tests.specs.Beside.{AreLines, IsEnd, IsLine, IsOwnerFresh};
 ghost use Rattle.post_tests.specs.Scenes.{AreAllPasses, HasHeld, KeepsUses, MayAllSend, MaySend};
 
-use crate::owning::{Job, cancel_all, end, serve, shut};
+use crate::owning::{cancel_all, end, serve, shut};
+use crate::parts::{Did, Job, Line};
 use crate::scenes::target;
 use crate::sending::{Sent, send};
 use post_core::{Emptied, Made, Owner, PlaceUse, Post, SendPass};
@@ -21,28 +22,6 @@ use std::thread::{Threads, for_each_mut};
 struct Plan {
     count: u64,
     jobs: usize,
-}
-
-/// What one thread has of a target, and what it did.
-struct Line {
-    place_use: PlaceUse<u64>,
-    pass: Option<SendPass<u64>>,
-    /// In the owner's thread.
-    owner: Option<Owner<u64>>,
-    emptied: Option<Emptied<u64>>,
-    did: Did,
-}
-
-/// What one thread did.
-#[derive(Drop)]
-struct Did {
-    /// How many of its jobs the target took.
-    sent: u64,
-    /// How often it had to bring a notice.
-    notices: u64,
-    /// The jobs that the owner finished, and then those that it cancelled.
-    log: Vec<Job>,
-    finished: usize,
 }
 
 /// All that the threads of a target had and did.

@@ -4,7 +4,8 @@ ghost use Rattle.std.specs.Prelude.{◌≡◌, ◌≤◌, None};
 ghost use Rattle.post_tests.specs.Hostile.{MayLetGo};
 ghost use Rattle.post_tests.specs.Scenes.{MaySend};
 
-use crate::owning::{Job, cancel_all, end, hold_first, shut};
+use crate::owning::{cancel_all, end, hold_first, shut};
+use crate::parts::{Hand, Job};
 use crate::scenes::{Alone, one_sender, only};
 use crate::sending::{Sent, bring, notify, put, refer, send, send_each};
 use post_core::{ClosingLook, Notice, Owing, PlaceUse, Post, RefPass, SendPass};
@@ -24,14 +25,6 @@ enum State {
     Notice,
     /// It sent a job, and has put another for which it had to bring no notice.
     Quiet,
-}
-
-/// What the sender has in such a state.
-pub(crate) enum Hand {
-    Pass(SendPass<u64>),
-    Reference(RefPass<u64>),
-    Owing(Owing<u64>),
-    Notice(Notice<u64>),
 }
 
 /// A state, the references that the owner then finds, and the numbers of the jobs that it cancels.

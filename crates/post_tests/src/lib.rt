@@ -9,6 +9,7 @@ mod hostile;
 mod making;
 #[cfg(test)]
 mod owning;
+mod parts;
 #[cfg(test)]
 mod places;
 #[cfg(test)]

@@ -6,23 +6,15 @@ ghost use Rattle.post_core.specs.OwnerViews.{IsEmptiedOf, IsExecOf, IsGotOf, IsO
 ghost use Rattle.post_core.specs.SendParts.{HasPlace, IsPassOf, pass_view, post_places};
 ghost use Rattle.post_tests.specs.Scenes.{AreAllPasses, HasHeld, KeepsUses};
 
+use crate::parts::Job;
 use post_core::{
     CancelNext, Closed, Closing, ClosingLook, Emptied, Exec, Got, Noticed, Owner, PlaceUse, Post,
     SendPass, Taken, close,
 };
-use proxy_laws::{FateMark, Mark, PostRecord};
+use proxy_laws::{FateMark, PostRecord};
 use std::process::Abort;
 use std::sync::Wait;
 use std::thread;
-
-/// A job that an owner took.
-#[derive(Clone, Copy, Debug, PartialEq, Eq)]
-pub(crate) struct Job {
-    pub(crate) place: u32,
-    pub(crate) nth: u64,
-    pub(crate) mark: Mark,
-    pub(crate) job: u64,
-}
 
 /// Finishes each job that waits at the place. One that was taken before may be active at place 0.
 pub(crate) fn execute<R: Abort + Wait>(
