@@ -158,17 +158,21 @@ fn tree_text(alloc: Global, tree: &NameTree) -> Result<Vec<u8>, AllocError> {
     Ok(out)
 }
 
-/// Takes each step in turn, and compares its answer.
+/// Takes each step in turn, and compares its answer. A line of the table is an operation, ` = ` and the answer, or a
+/// remark behind `#`.
 fn check_steps(
     rt: &impl Abort,
     alloc: Global,
     tree: &mut NameTree,
-    steps: &[(&str, &str)],
+    table: &str,
 ) -> Result<(), Fail> {
-    for (line, expected) in steps {
-        let answer = tree.apply(&read_op(alloc, line)?)?;
-        let text = answer_text(alloc, &answer)?;
-        assert_eq!(rt; text.as_slice(), expected.as_bytes(), "at {line}");
+    for line in table.lines() {
+        if !line.is_empty() && !line.starts_with('#') {
+            let (operation, expected) = line.split_once(" = ").ok_or("a line without an answer")?;
+            let answer = tree.apply(&read_op(alloc, operation)?)?;
+            let text = answer_text(alloc, &answer)?;
+            assert_eq!(rt; text.as_slice(), expected.as_bytes(), "at {operation}");
+        }
     }
     Ok(())
 }

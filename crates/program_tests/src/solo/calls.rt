@@ -52,16 +52,15 @@ impl Script {
     }
 }
 
-/// Runs calls behind declarations, and compares the reply to each.
-fn expect(
-    rt: &impl Abort,
-    alloc: Global,
-    declarations: &str,
-    cases: &[(&str, &str)],
-) -> Result<(), AllocError> {
+/// Runs calls behind declarations, and compares the reply to each. A line of the table is a call, ` = ` and the reply, or a
+/// remark behind `#`.
+fn expect(rt: &impl Abort, alloc: Global, declarations: &str, table: &str) -> Result<(), Fail> {
     let mut script = Script::new(alloc, declarations)?;
-    for (call, reply) in cases {
-        script.add(alloc, call, reply)?;
+    for line in table.lines() {
+        if !line.is_empty() && !line.starts_with('#') {
+            let (call, reply) = line.split_once(" = ").ok_or("a call without a reply")?;
+            script.add(alloc, call, reply)?;
+        }
     }
-    script.run(rt, alloc)
+    Ok(script.run(rt, alloc)?)
 }

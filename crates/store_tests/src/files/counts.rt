@@ -48,19 +48,19 @@ fn expect_contents(
     )
 }
 
-const FOUR_FILES: [(&str, &str); 4] = [
-    ("make rw", "file 0 0"),
-    ("make rw", "file 4 4"),
-    ("make rw", "file 8 8"),
-    ("make rw", "file 12 12"),
-];
+const FOUR_FILES: &str = "
+make rw = file 0 0
+make rw = file 4 4
+make rw = file 8 8
+make rw = file 12 12
+";
 
 /// Four files of 16,777,216 bytes other than 0, which are the most that a group has.
 #[test]
 fn bytes_of_a_group(rt: HostRuntime) -> Result<(), Fail> {
     let alloc = rt.alloc();
     let mut files = Files::new(alloc, 0);
-    expect_all(&rt, alloc, &mut files, &FOUR_FILES)?;
+    expect_all(&rt, alloc, &mut files, FOUR_FILES)?;
     for id in [0, 4] {
         let write = FileOp::Write {
             description: DescriptionId::new(id),
@@ -135,11 +135,11 @@ fn count_of_files(rt: HostRuntime) -> Result<(), Fail> {
     Ok(())
 }
 
-const ENDS: [(&str, &str); 3] = [
-    ("size 3", "size 0"),
-    ("release 3", "done"),
-    ("size 3", "EBADF"),
-];
+const ENDS: &str = "
+size 3 = size 0
+release 3 = done
+size 3 = EBADF
+";
 
 /// 1,024 descriptions of one file, of which each has an offset of its own.
 #[test]
@@ -174,5 +174,5 @@ fn count_of_descriptions(rt: HostRuntime) -> Result<(), Fail> {
             "EBADF",
         )?;
     }
-    expect_all(&rt, alloc, &mut files, &ENDS)
+    expect_all(&rt, alloc, &mut files, ENDS)
 }

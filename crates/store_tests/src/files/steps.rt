@@ -146,15 +146,19 @@ pub(super) fn expect(
     Ok(())
 }
 
-/// Takes each step in turn, and compares what it answers.
+/// Takes each step in turn, and compares what it answers. A line of the table is an operation, ` = ` and the answer, or a
+/// remark behind `#`.
 pub(super) fn expect_all(
     rt: &impl Abort,
     alloc: Global,
     files: &mut Files,
-    cases: &[(&str, &str)],
+    table: &str,
 ) -> Result<(), Fail> {
-    for (line, expected) in cases {
-        expect(rt, alloc, files, line, expected)?;
+    for line in table.lines() {
+        if !line.is_empty() && !line.starts_with('#') {
+            let (operation, expected) = line.split_once(" = ").ok_or("a line without an answer")?;
+            expect(rt, alloc, files, operation, expected)?;
+        }
     }
     Ok(())
 }

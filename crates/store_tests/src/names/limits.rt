@@ -33,31 +33,31 @@ fn repeated(alloc: Global, piece: &str, count: u32) -> Result<String, AllocError
 }
 
 /// Each operation that takes a name or a text. `@` stands for all bytes of a name but its first, `#` for a text.
-const LONG: [(&str, &str); 23] = [
-    ("makedir 0 a@", "made 1"),
-    ("makedir 0 a@", "EEXIST"),
-    ("look 0 a@", "dir 1"),
-    ("addlink 0 b@ #", "made 2"),
-    ("addlink 0 b@ #", "EEXIST"),
-    ("look 0 b@", "link 2 #"),
-    ("addfile 0 c@ 4", "done"),
-    ("addfile 0 c@ 8", "taken file 4"),
-    ("addfile 0 b@ 8", "taken link 2 #"),
-    ("move 0 c@ 1 d@ 0", "moved"),
-    ("look 0 c@", "absent"),
-    ("look 1 d@", "file 4"),
-    ("move 0 b@ 1 d@ 0", "over 4"),
-    ("look 1 d@", "link 2 #"),
-    ("list 1 0", "names d@"),
-    ("move 1 d@ 0 e@ 0", "moved"),
-    ("move 0 a@ 0 f@ 0", "moved"),
-    ("remfile 0 e@ 1", "ENOTDIR"),
-    ("remfile 0 e@ 0", "link"),
-    ("addfile 0 g@ 8", "done"),
-    ("remfile 0 g@ 0", "file 8"),
-    ("remdir 0 f@", "done"),
-    ("list 0 0", "names"),
-];
+const LONG: &str = "
+makedir 0 a@ = made 1
+makedir 0 a@ = EEXIST
+look 0 a@ = dir 1
+addlink 0 b@ # = made 2
+addlink 0 b@ # = EEXIST
+look 0 b@ = link 2 #
+addfile 0 c@ 4 = done
+addfile 0 c@ 8 = taken file 4
+addfile 0 b@ 8 = taken link 2 #
+move 0 c@ 1 d@ 0 = moved
+look 0 c@ = absent
+look 1 d@ = file 4
+move 0 b@ 1 d@ 0 = over 4
+look 1 d@ = link 2 #
+list 1 0 = names d@
+move 1 d@ 0 e@ 0 = moved
+move 0 a@ 0 f@ 0 = moved
+remfile 0 e@ 1 = ENOTDIR
+remfile 0 e@ 0 = link
+addfile 0 g@ 8 = done
+remfile 0 g@ 0 = file 8
+remdir 0 f@ = done
+list 0 0 = names
+";
 
 #[test]
 fn names_and_texts_of_each_length(rt: HostRuntime) -> Result<(), Fail> {
@@ -66,14 +66,9 @@ fn names_and_texts_of_each_length(rt: HostRuntime) -> Result<(), Fail> {
         let rest = repeated(alloc, "n", name - 1)?;
         let text = repeated(alloc, "t", text)?;
         let mut tree = NameTree::new(alloc, Vec::new(alloc))?;
-        for (line, expected) in LONG {
-            let line = filled(alloc, line, '@', rest.as_str())?;
-            let line = filled(alloc, line.as_str(), '#', text.as_str())?;
-            let expected = filled(alloc, expected, '@', rest.as_str())?;
-            let expected = filled(alloc, expected.as_str(), '#', text.as_str())?;
-            let step = [(line.as_str(), expected.as_str())];
-            check_steps(&rt, alloc, &mut tree, step.as_slice())?;
-        }
+        let table = filled(alloc, LONG, '@', rest.as_str())?;
+        let table = filled(alloc, table.as_str(), '#', text.as_str())?;
+        check_steps(&rt, alloc, &mut tree, table.as_str())?;
     }
     Ok(())
 }
