@@ -1,12 +1,11 @@
 -- Each step changes of what a table shows what the laws say.
-use Rattle.std.proofs.Common.{◌≡◌, ℕ, ◌+◌, ◌%◌, ◌^◌, ◌⊎◌, inl, inr, List, [], ◌∷◌, ◌++◌, length, get_or, refl, sym, ap, ◌∙◌, subst, ⊎_elim, arith}
+use Rattle.std.proofs.Common.{◌≡◌, ℕ, ◌+◌, ◌%◌, ◌^◌, ◌⊎◌, inl, inr, [], ◌∷◌, ◌++◌, get_or, refl, sym, ap, ◌∙◌, subst, ⊎_elim, arith}
 use Rattle.std.proofs.Math.Nat.{mod-eq_of_lt}
 use Rattle.std.specs.Prelude.{Option, Some, None}
 use mathlib.Core.Option.{some-injective, some}
 use Rattle.atomic_table.proofs.Lists.{set_else}
-use Rattle.atomic_table.specs.Table.{State, keeps, stepped}
+use Rattle.atomic_table.specs.Table.{keeps, stepped}
 use Rattle.turn_cell.specs.declared.entry.CellRecord.{CellRecord}
-use Rattle.turn_cell.specs.declared.view.View.{View}
 use Rattle.turn_cell.specs.Laws.{AddsSeat, DrawsUnderTurn, GivesOwnTurn, JoinsOther, SeenIsAllowed, ShowsOneHistory, SplitsOffNote, SplitsOffPass, TakesFreeTurn}
 use Rattle.turn_cell.specs.Maps.{with_value_at}
 use Rattle.turn_cell.specs.Rule.{ShowsThat, turn_word}

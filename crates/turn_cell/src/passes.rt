@@ -51,7 +51,8 @@ impl<S: CellState> TurnPass<S, S::Op, S::Answer> {
     /// A note of what the pass has seen, for another pass of the table to meet.
     pub fn note(&mut self, table: &TurnTable<S>) -> TurnNote<S, S::Op, S::Answer>
         requires { IsPassOf table.now self.old }
-        ensures table { IsPassOf table.now self.new × (pass_number self.new ≡ pass_number self.old) }
+        ensures table { IsPassOf table.now self.new
+            × (pass_number self.new ≡ pass_number self.old) }
         ensures pass { pass_view self.new ≡ pass_view self.old }
         ensures note { IsNoteOf table.now result × (note_seen result ≡ pass_seen self.old) }
         ensures form { AreAllowed S.kind S.allows (table_openings table.now) (note_seen result) }
@@ -65,7 +66,8 @@ impl<S: CellState> TurnPass<S, S::Op, S::Answer> {
     pub fn meet(&mut self, table: &TurnTable<S>, note: TurnNote<S, S::Op, S::Answer>)
         requires table { IsPassOf table.now self.old }
         requires note { IsNoteOf table.now note }
-        ensures table { IsPassOf table.now self.new × (pass_number self.new ≡ pass_number self.old) }
+        ensures table { IsPassOf table.now self.new
+            × (pass_number self.new ≡ pass_number self.old) }
         ensures own { pass_own self.new ≡ pass_own self.old }
         ensures seen { pass_seen self.new ≡ pass_seen self.old ++ note_seen note }
         ensures form { AreAllowed S.kind S.allows (table_openings table.now) (pass_seen self.new) }
