@@ -3,7 +3,6 @@
 
 #[cfg(test)]
 mod beside;
-#[cfg(test)]
 mod counter;
 #[cfg(test)]
 mod replay;
