@@ -14,3 +14,4 @@ pub mod FormLemmas
 pub mod StepLaws
 pub mod WriteLawLemmas
 pub mod DescriptorLawLemmas
+pub mod AnswerLemmas

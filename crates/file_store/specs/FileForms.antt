@@ -1,5 +1,5 @@
 -- What each operation may answer, and which take no memory.
-use Rattle.std.specs.Prelude.{◌≡◌, ◌⊎◌, ℕ, ◌≤◌, List, length}
+use Rattle.std.specs.Prelude.{◌≡◌, ◌⊎◌, ℕ, ◌≤◌, min, List, [], length}
 use Rattle.wf_core.specs.Limits.{file_max, offset_max, read_max}
 use Rattle.wf_core.specs.declared.errno.Errno.TheVariants.{Ebadf, Einval, Efbig, Enospc, Eoverflow}
 use Rattle.file_store.specs.declared.file_operation.FileOp.{FileOp}
@@ -57,3 +57,14 @@ IsSpare (op.Seek id offset whence) = Unit {0}
 IsSpare (op.Cut id size) = Unit {0}
 IsSpare (op.Size id) = Unit {0}
 IsSpare _ = ⊥
+
+-- the bytes that an answer has
+abbrev pub bytes_in : FileAnswer → List ℕ
+bytes_in (answer.Bytes bytes) = bytes
+bytes_in _ = []
+
+-- how many those are at most
+abbrev pub answer_bytes_max : FileOp → ℕ
+answer_bytes_max (op.Read id count) = min count read_max
+answer_bytes_max (op.Readat id count offset) = min count read_max
+answer_bytes_max _ = 0

@@ -39,6 +39,10 @@ impl FileGroup {
         }
     }
 
+    pub(crate) fn alloc(&self) -> Global {
+        self.alloc
+    }
+
     pub(crate) fn pages(&self) -> usize
         ensures { result ≡ total_pages self.now.files }
     {

@@ -5,6 +5,7 @@ ghost use Rattle.file_store.specs.Sound.{IsSound};
 ghost use Rattle.file_store.specs.Laws.{LeavesGroup};
 ghost use Rattle.wf_core.specs.Limits.{group_count};
 
+use crate::answer_copy::answer_room;
 use crate::file_group::FileGroup;
 use crate::file_operation::{FileAnswer, FileOp};
 use std::alloc::{AllocError, Global};
@@ -58,5 +59,22 @@ impl Files {
         ensures sound { IsSound self.new }
     {
         self.group.step(op)
+    }
+
+    /// Takes one step as `apply` does, and gives the answer twice, of which the second takes no more memory than it
+    /// needs. Want of memory changes nothing.
+    #[tactic(auto, using(crate::proofs::AnswerLemmas::bytes_fit))]
+    pub fn apply_with_copy(&mut self, op: &FileOp) -> Result<(FileAnswer, FileAnswer), AllocError>
+        ensures ok { IfOk result (λ answers.
+            fstep self.old op.now ≡ record { group = self.new; answer = answers.1 }) }
+        ensures copy { IfOk result (λ answers. answers.0 ≡ answers.1) }
+        ensures form { IfOk result (λ answers. IsForm op.now answers.1) }
+        ensures err { OnErr result (self.new ≡ self.old) }
+        ensures sound { IsSound self.new }
+    {
+        // A read moves the offset, so there has to be room for the copy before it.
+        let room = answer_room(self.group.alloc(), op)?;
+        let answer = self.apply(op)?;
+        Ok((answer.copy_in(room), answer))
     }
 }

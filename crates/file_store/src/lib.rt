@@ -11,6 +11,7 @@ pub use laws::{
     writes_are_read,
 };
 
+mod answer_copy;
 mod contents;
 mod description_table;
 mod descriptor_operation;

@@ -12,6 +12,7 @@ pub use name_tree::NameTree;
 pub use operation::{NameAnswer, NameOp, Node};
 pub use tree_line::TreeLine;
 
+mod answer_copy;
 mod directories;
 mod directory;
 mod laws;

@@ -1,4 +1,4 @@
-ghost use Rattle.std.specs.Prelude.{◌≡◌, ℕ, List, [], ◌∷◌, ◌++◌, nat_eq, OnOk};
+ghost use Rattle.std.specs.Prelude.{◌≡◌, ℕ, List, [], ◌∷◌, ◌++◌, nat_eq, IfOk, OnOk};
 ghost use Rattle.std.specs.Cmp.{partial_equiv_from_equiv};
 ghost use Rattle.std.specs.Cmp.Lexicographic.{pointwise, lists_equiv, nat_list_eq_equiv};
 
@@ -33,6 +33,14 @@ impl NameList {
     {
         self.names.push(name)?;
         Ok(())
+    }
+
+    pub(crate) fn copy(&self) -> Result<NameList, AllocError>
+        ensures { IfOk result (λ names. names ≡ self.now) }
+    {
+        Ok(NameList {
+            names: self.names.clone()?,
+        })
     }
 
     /// The names, in their order.

@@ -57,6 +57,21 @@ impl NameTree {
         self.directories.step(op)
     }
 
+    /// Takes one step as `apply` does, and gives the answer twice. Want of memory changes nothing.
+    pub fn apply_with_copy(&mut self, op: &NameOp) -> Result<(NameAnswer, NameAnswer), AllocError>
+        ensures ok { IfOk result (λ answers.
+            nstep self.old op.now ≡ record { tree = self.new; answer = answers.0 }) }
+        ensures copy { IfOk result (λ answers. answers.1 ≡ answers.0) }
+        ensures form { IfOk result (λ answers. IsForm op.now answers.0) }
+        ensures err { OnErr result (self.new ≡ self.old) }
+        ensures sound { IsSound self.new }
+    {
+        let answer = self.apply(op)?;
+        // Where the step has changed the tree, a copy of its answer takes no memory.
+        let copy = answer.copy()?;
+        Ok((answer, copy))
+    }
+
     /// The lines of the tree, which name each entry once. A tree of 2^32 ids or more has none: it is want of memory.
     pub fn lines(&self, alloc: Global) -> Result<Vec<TreeLine>, AllocError>
         ensures lines { IfOk result (λ lines. lines.items ≡ tree_lines self.now) }
