@@ -158,7 +158,7 @@ fn tree_text(alloc: Global, tree: &NameTree) -> Result<Vec<u8>, AllocError> {
     Ok(out)
 }
 
-/// Takes each step in turn, and compares its answer. A line of the table is an operation, ` = ` and the answer, or a
+/// Takes each step in turn, and compares its answer, which is given twice. A line of the table is an operation, ` = ` and the answer, or a
 /// remark behind `#`.
 fn check_steps(
     rt: &impl Abort,
@@ -169,7 +169,8 @@ fn check_steps(
     for line in table.lines() {
         if !line.is_empty() && !line.starts_with('#') {
             let (operation, expected) = line.split_once(" = ").ok_or("a line without an answer")?;
-            let answer = tree.apply(&read_op(alloc, operation)?)?;
+            let (answer, copy) = tree.apply_with_copy(&read_op(alloc, operation)?)?;
+            assert_eq!(rt; copy, answer, "at {operation}");
             let text = answer_text(alloc, &answer)?;
             assert_eq!(rt; text.as_slice(), expected.as_bytes(), "at {operation}");
         }

@@ -132,7 +132,7 @@ fn answer_text(alloc: Global, answer: &FileAnswer) -> Result<String, AllocError>
     }
 }
 
-/// Takes a step and compares what it answers.
+/// Takes a step and compares what it answers, twice.
 pub(super) fn expect(
     rt: &impl Abort,
     alloc: Global,
@@ -140,9 +140,11 @@ pub(super) fn expect(
     line: &str,
     expected: &str,
 ) -> Result<(), Fail> {
-    let answer = files.apply(&read_op(alloc, line)?)?;
+    let (answer, copy) = files.apply_with_copy(&read_op(alloc, line)?)?;
     let text = answer_text(alloc, &answer)?;
     assert_eq!(rt; text.as_str(), expected, "at {line}");
+    let text = answer_text(alloc, &copy)?;
+    assert_eq!(rt; text.as_str(), expected, "of the copy at {line}");
     Ok(())
 }
 
