@@ -71,7 +71,7 @@ impl<S: CellState + Drop> TurnTable<S> {
         let Ok(mut records) = Vec::with_capacity(self.alloc, self.table.slot_count()) else {
             return Err((self, passes));
         };
-        let TurnTable { table, alloc: _ } = self;
+        let TurnTable { table, .. } = self;
         let seat = gather(&table.shared, passes);
         let mut closed = table.close_with(seat);
         empty(&mut closed, &mut records);

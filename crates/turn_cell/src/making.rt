@@ -16,6 +16,7 @@ use crate::view::View;
 use atomic_table::{Seat, Table};
 use std::alloc::{AllocError, Global};
 use std::snapshot::Snapshot;
+use std::sync::atomic::AtomicU32;
 
 /// Cells that have no entry.
 fn records_of<S: Drop, O: Drop, A: Drop>(
@@ -98,6 +99,14 @@ impl<S: CellState + Drop> TurnTable<S> {
             Err(_) => return Err(AllocError),
         };
         deal(&table.shared, &mut dealer, passes, &mut dealt);
-        Ok((TurnTable { table, alloc }, dealt))
+        let waiting = AtomicU32::new(0);
+        Ok((
+            TurnTable {
+                table,
+                alloc,
+                waiting,
+            },
+            dealt,
+        ))
     }
 }

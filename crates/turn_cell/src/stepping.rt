@@ -52,9 +52,16 @@ impl<S: CellState> TurnTable<S> {
         ensures err { OnErr result (pass_view pass.new ≡ pass_view pass.old) }
     {
         wait_for_stamp(rt, pass.drawn);
-        take(rt, &self.table.shared, &mut pass.seat, cell as usize);
+        take(
+            rt,
+            &self.table.shared,
+            &self.waiting,
+            &mut pass.seat,
+            cell as usize,
+        );
         let changed = change(
             &self.table.shared,
+            &self.waiting,
             &mut pass.seat,
             cell as usize,
             pass.number,
