@@ -1,5 +1,5 @@
 -- Lemmas on the flat bytes that pages show.
-use Rattle.std.proofs.Common.{◌≡◌, ◌≢◌, ℕ, zero, suc, ◌+◌, ◌-◌, ◌*◌, ◌/◌, ◌%◌, ◌<◌, ◌≤◌, max, min, Bool, true, false, not, cond, ◌&&◌, ltb, leb, List, length, get_or, filter, Option, None, Some, unwrap_or, is_some, IsSome, nat_cmp, refl, sym, ap, ap₂, ◌∙◌, inl, inr, arith}
+use Rattle.std.proofs.Common.{◌≡◌, ◌≢◌, ℕ, zero, suc, ◌+◌, ◌-◌, ◌*◌, ◌/◌, ◌%◌, ◌<◌, ◌≤◌, max, min, Bool, true, false, not, cond, ◌&&◌, ltb, leb, if◌then◌else◌, List, length, take, get_or, filter, Option, None, Some, unwrap_or, is_some, IsSome, nat_cmp, refl, sym, ap, ap₂, ◌∙◌, inl, inr, arith}
 use Rattle.std.specs.Cmp.{nat_cmp_total, eq_by_cmp_equiv}
 use Rattle.std.specs.Ordering.{eq_by_cmp}
 use Rattle.std.specs.List.{range_with_len}
@@ -8,7 +8,7 @@ use Rattle.std.specs.Map.{keys_of}
 use Rattle.std.specs.Set.{is_member}
 use Rattle.std.proofs.lemmas.Bool.{cases_lt}
 use Rattle.std.proofs.lemmas.Bool.Decides.{nat_tests}
-use Rattle.std.proofs.lemmas.List.{same_lists, get_or_past, get_or_default, get_or-replicate}
+use Rattle.std.proofs.lemmas.List.{same_lists, length-take, get_or-take, get_or_past, get_or_default, get_or-replicate}
 use Rattle.std.proofs.lemmas.List.FromFn.{length-range_with_len, get_or-range_with_len, length-map-range_with_len, get_or-map-range_with_len}
 use Rattle.std.proofs.lemmas.List.Kept.{IsStrictlySortedBy-filter}
 use Rattle.std.proofs.lemmas.List.Sums.{length-filter}
@@ -17,7 +17,7 @@ use Rattle.std.proofs.lemmas.Map.Keys.{IsDistinct-from_sorted, sorted_from_stric
 use Rattle.std.proofs.lemmas.Map.Lookups.{exact_unsigned}
 use Rattle.std.proofs.lemmas.Map.Made.{length-from_same_keys, is_member-filter, is_some-lookup}
 use Rattle.std.proofs.lemmas.Map.Views.{tells_apart}
-use Rattle.file_store.specs.FileBytes.{part, with_length, with_bytes_at, is_page_kept, page_count}
+use Rattle.file_store.specs.FileBytes.{part, with_length, with_bytes_at, is_page_kept, page_of, page_count}
 use Rattle.file_store.specs.Pages.{PageEntries, kept_page, page_at, byte_at, zero_page, flat, overlay_byte, AreWhole, AreTightWithin}
 use Rattle.file_store.proofs.FileBytesLemmas.{length-resized, resized_at, length-overwritten, overwritten_at, length-part, part_at, all_zero_from}
 use Rattle.file_store.proofs.WriteLemmas.{nonzero_place, not_all_zero}
@@ -91,6 +91,23 @@ module _ (size : ℕ) (pages : PageEntries) (whole : AreWhole pages) (within : A
           | inr high ↦ get_or_past (part (flat size pages) (page * 4096) 4096) j 0 (omega (arith, length-part (flat size pages) (page * 4096) 4096))
         ] in
         ap not (all_zero_from (part (flat size pages) (page * 4096) 4096) zeros)
+
+  pub not_kept : (page : ℕ) → None ≡ kept_page pages page → None ≡ page_of (flat size pages) page
+  not_kept page e = ap (λ (b : Bool). if b then Some (part (flat size pages) (page * 4096) 4096) else None) (ap is_some e ∙ sym (kept_is page))
+
+  -- what is kept of a page, up to the size
+  pub kept_up_to : (page count : ℕ) (bytes : List ℕ) → Some bytes ≡ kept_page pages page → count ≡ min (size - page * 4096) 4096 → Some (take count bytes) ≡ page_of (flat size pages) page
+  kept_up_to page count bytes e n =
+      let is : bytes ≡ page_at pages page = ap (λ (found : Option (List ℕ)). unwrap_or found zero_page) e in
+      let whole_page : length bytes ≡ 4096 = ap length is ∙ whole page in
+      let shown = part (flat size pages) (page * 4096) 4096 in
+      let cut : take count bytes ≡ shown =
+      same_lists (take count bytes) shown (omega (arith, length-take count bytes, whole_page, length-part (flat size pages) (page * 4096) 4096, length-flat size pages)) (λ k d low.
+      let below : k < count = omega (arith, length-take count bytes, low) in
+      let inside : k < length shown = omega (arith, below, length-part (flat size pages) (page * 4096) 4096, length-flat size pages) in
+      get_or-take count bytes k d below ∙ get_or_default bytes k d 0 (omega arith) ∙ ap (λ (xs : List ℕ). get_or xs k 0) is
+      ∙ sym (flat_page page k (omega arith)) ∙ get_or_default shown k 0 d inside) in
+      ap Some cut ∙ ap (λ (b : Bool). if b then Some shown else None) (ap is_some e ∙ sym (kept_is page))
 
   range_has : (a n q : ℕ) → is_member (eq_by_cmp nat_cmp) (range_with_len a n) q ≡ (leb a q && ltb q (a + n))
   range_has a zero q = grind (arith, nat_tests)

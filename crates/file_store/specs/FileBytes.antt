@@ -1,5 +1,5 @@
 -- What is done to the bytes of a file, as one flat list (POSIX.1-2017, XSH write(), lseek() and ftruncate()).
-use Rattle.std.specs.Prelude.{ℕ, ◌+◌, ◌-◌, ◌*◌, ◌/◌, ◌==◌, Bool, not, List, ◌++◌, length, take, drop, replicate, count_by}
+use Rattle.std.specs.Prelude.{ℕ, ◌+◌, ◌-◌, ◌*◌, ◌/◌, ◌==◌, if◌then◌else◌, Bool, not, Option, None, Some, List, ◌++◌, length, take, drop, replicate, count_by}
 use Rattle.std.specs.List.{list_all, range_with_len}
 use Rattle.wf_core.specs.Limits.{page_size}
 
@@ -22,6 +22,10 @@ all_zero bytes = list_all (λ byte. byte == 0) bytes
 -- page `page` has a byte other than 0
 abbrev pub is_page_kept : List ℕ → ℕ → Bool
 is_page_kept bytes page = not (all_zero (part bytes (page * page_size) page_size))
+
+-- the bytes of a page that has a byte other than 0
+abbrev pub page_of : List ℕ → ℕ → Option (List ℕ)
+page_of bytes page = if is_page_kept bytes page then Some (part bytes (page * page_size) page_size) else None
 
 -- how many pages have a byte other than 0
 abbrev pub page_count : List ℕ → ℕ

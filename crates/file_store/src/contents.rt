@@ -1,5 +1,6 @@
 ghost use Rattle.std.specs.Prelude.{◌≡◌, ◌+◌, ◌^◌, ◌<◌, [], length, IfOk, OnOk, OnErr};
-ghost use Rattle.file_store.specs.FileBytes.{part, with_bytes_at, with_length, page_count};
+ghost use Rattle.std.specs.Option.{option_copied};
+ghost use Rattle.file_store.specs.FileBytes.{page_of, part, with_bytes_at, with_length, page_count};
 
 use crate::pages::{Pages, piece_size};
 use std::alloc::{AllocError, Global};
@@ -47,6 +48,16 @@ impl Contents {
         ensures { result ≡ page_count self.now }
     {
         self.pages.len()
+    }
+
+    /// The bytes of a page up to the end, where it has a byte other than 0.
+    pub(crate) fn page(&self, page: u64) -> Option<&[u8]>
+        ensures { option_copied result ≡ page_of self.now page }
+    {
+        let kept = self.pages.kept(page)?;
+        let start = page.saturating_mul(PAGE_SIZE as u64);
+        let size = self.size.saturating_sub(start).min(PAGE_SIZE as u64);
+        Some(&kept[..size as usize])
     }
 
     /// The bytes from an offset on, at most so many. It takes the time of the bytes, and for each page of

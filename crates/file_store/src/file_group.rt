@@ -1,5 +1,5 @@
 ghost use Rattle.std.specs.Prelude.{◌≡◌, ℕ, ◌≤◌, ◌+ℤ◌, pos, Option, None, Some, MatchOption, true, IsOk, IsSome, IfOk, IfSome, OnErr};
-ghost use Rattle.std.specs.Option.{option_map};
+ghost use Rattle.std.specs.Option.{option_copied, option_map};
 ghost use Rattle.file_store.specs.FileGroups.{opening, open_file_at, on_open, outcome_of, file_at, description_at, make_outcome, attach_outcome, sizeof_answer, files_after_unlink, with_files, is_open, release_outcome, group_after_release, read_outcome, readat_outcome, write_outcome, writeat_outcome, seek_outcome, cut_outcome, size_outcome, natural, write_offset, seek_base, seek_offset, fstep, total_pages};
 ghost use Rattle.file_store.specs.FileForms.{IsSpare};
 ghost use Rattle.file_store.specs.Sound.{IsSound};
@@ -47,6 +47,12 @@ impl FileGroup {
         ensures { result ≡ total_pages self.now.files }
     {
         self.files.pages()
+    }
+
+    pub(crate) fn file(&self, id: FileId) -> Option<&File>
+        ensures { option_copied result ≡ file_at self.now id }
+    {
+        self.files.get(id)
     }
 
     /// Takes one step, which is the definition's. Want of memory changes nothing.

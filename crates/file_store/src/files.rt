@@ -1,5 +1,7 @@
-ghost use Rattle.std.specs.Prelude.{◌≡◌, ◌<◌, IsOk, IfOk, OnErr};
-ghost use Rattle.file_store.specs.FileGroups.{opening, fstep, total_pages};
+ghost use Rattle.std.specs.Prelude.{◌≡◌, ◌<◌, length, IsOk, IfOk, OnErr};
+ghost use Rattle.std.specs.Option.{option_and_then, option_copied, option_map};
+ghost use Rattle.file_store.specs.FileBytes.{page_of};
+ghost use Rattle.file_store.specs.FileGroups.{file_at, opening, fstep, total_pages};
 ghost use Rattle.file_store.specs.FileForms.{IsForm, IsSpare};
 ghost use Rattle.file_store.specs.Sound.{IsSound};
 ghost use Rattle.file_store.specs.Laws.{LeavesGroup};
@@ -10,6 +12,7 @@ use crate::file_group::FileGroup;
 use crate::file_operation::{FileAnswer, FileOp};
 use std::alloc::{AllocError, Global};
 use std::marker::Model;
+use wf_core::FileId;
 
 /// The files of one group of a backend and their open descriptions, seen as both by their ids. The group is sound.
 #[derive(Drop)]
@@ -44,6 +47,22 @@ impl Files {
         ensures { result ≡ total_pages self.now.files }
     {
         self.group.pages()
+    }
+
+    /// How many bytes a file has, where it is there. It takes no memory.
+    pub fn size(&self, file: FileId) -> Option<u64>
+        ensures { result ≡ option_map (λ file. length file.bytes) (file_at self.now file) }
+    {
+        Some(self.group.file(file)?.bytes.size())
+    }
+
+    /// The bytes of the file's page of that number up to the file's end, where the file is there and the page has a
+    /// byte other than 0. It takes no memory, and the time of finding the page.
+    pub fn page(&self, file: FileId, page: u64) -> Option<&[u8]>
+        ensures { option_copied result
+            ≡ option_and_then (λ file. page_of file.bytes page) (file_at self.now file) }
+    {
+        self.group.file(file)?.bytes.page(page)
     }
 
     /// Takes one step, which is the definition's. Want of memory changes nothing.

@@ -1,4 +1,5 @@
-ghost use Rattle.std.specs.Prelude.{◌≡◌, ◌≢◌, None, ◌⊎◌, ℕ, ◌+◌, ◌-◌, ◌*◌, ◌/◌, ◌%◌, ◌^◌, ◌<◌, ◌≤◌, ◌++◌, [], true, false, nat_lt, length, take, drop, replicate, IsSome, OnOk, OnErr, if◌then◌else◌};
+ghost use Rattle.std.specs.Prelude.{◌≡◌, ◌≢◌, None, ◌⊎◌, ℕ, ◌+◌, ◌-◌, ◌*◌, ◌/◌, ◌%◌, ◌^◌, ◌<◌, ◌≤◌, ◌++◌, [], true, false, nat_lt, length, take, drop, replicate, IsSome, IfSome, OnOk, OnErr, if◌then◌else◌};
+ghost use Rattle.std.specs.Option.{option_copied};
 ghost use Rattle.std.specs.List.Sorted.{IsStrictlySortedBy};
 ghost use Rattle.std.specs.Map.{keys_of};
 ghost use Rattle.std.specs.Ordering.{nat_cmp};
@@ -54,6 +55,18 @@ impl Pages {
         match self.pages.get(&page) {
             Some(kept) => kept.as_bytes(),
             None => &ZEROS,
+        }
+    }
+
+    /// The bytes of a page that is kept.
+    pub(crate) fn kept(&self, page: u64) -> Option<&[u8]>
+        ensures value { option_copied result ≡ kept_page self.now page }
+        ensures whole { AreWhole self.now }
+        ensures size { IfSome result (λ bytes. length bytes.now ≡ page_size) }
+    {
+        match self.pages.get(&page) {
+            Some(kept) => Some(kept.as_bytes()),
+            None => None,
         }
     }
 

@@ -8,6 +8,8 @@ use Rattle.name_store.specs.declared.operation.Node.TheVariants.{Dir, Link, File
 use Rattle.name_store.specs.declared.operation.NameOp.{NameOp}
 use Rattle.name_store.specs.declared.operation.NameOp.TheVariants.{Look, Parent}
 use Rattle.name_store.specs.declared.operation.NameAnswer.TheVariants.{Found, Absent}
+use Rattle.file_store.specs.declared.descriptor_operation.FdOp.{FdOp}
+use Rattle.file_store.specs.declared.descriptor_operation.FdOp.TheVariants as fd
 use Rattle.path_walk.specs.declared.part.Part.{Part}
 use Rattle.path_walk.specs.declared.part.Part.TheVariants.{Here, Up, Down, TooLong}
 use Rattle.path_walk.specs.declared.route.Manner.{Manner}
@@ -17,17 +19,19 @@ use Rattle.path_walk.specs.declared.route.End.{End}
 use Rattle.path_walk.specs.declared.step.CellId.{CellId}
 use Rattle.path_walk.specs.declared.step.StoreOp.{StoreOp}
 use Rattle.path_walk.specs.declared.step.StoreOp.TheVariants.{Names as NamesOp}
-use Rattle.path_walk.specs.declared.step.StoreAnswer.TheVariants.{Names as NamesAnswer, Files as FilesAnswer}
+use Rattle.path_walk.specs.declared.step.StoreAnswer.TheVariants.{Names as NamesAnswer, Files as FilesAnswer, Descriptors as DescriptorsAnswer}
 use Rattle.path_walk.specs.declared.step.StepAnswer.{StepAnswer}
 use Rattle.path_walk.specs.declared.step.StepAnswer.TheVariants.{Answered, Cancelled, Closed}
 use Rattle.path_walk.specs.declared.call.Call.{Call}
-use Rattle.path_walk.specs.Backing.{IsNodeAmong, IsAnswerOf}
+use Rattle.path_walk.specs.Backing.{IsFdOpAmong, IsNodeAmong, IsAnswerOf}
 use Rattle.path_walk.specs.PathMeaning.{Way, Course, ends, goes, root_of, start_of, course_through, course_at_file, course_at_link, is_followed}
 use Rattle.path_walk.specs.Programs.{Program, asks, StaysAmong}
 use Rattle.path_walk.specs.Walk.{program_on, walk, course_on, node_in}
-use Rattle.path_walk.specs.Calls.{program_of, plan_after, unlinked_by}
+use Rattle.path_walk.specs.Plans.{Plan, program_of}
+use Rattle.path_walk.specs.Calls.{plan_after, unlinked_by}
 use Rattle.path_walk.specs.Posix.{program}
 use Rattle.path_walk.proofs.Plans.{EndIs, Holds, each_call}
+use Rattle.path_walk.proofs.Grows.{NodeIs, FoundIs, FillIs, Grows, uses_so, changes_so, opens_so}
 
 -- of so many backends, the walk's end, its course, or what was found names only those
 abbrev EndAmong : ℕ → Result End Errno → Type 0
@@ -38,8 +42,13 @@ CourseAmong backends (ends end) = EndAmong backends end
 CourseAmong backends (goes w) = w.spot.backend < backends
 
 abbrev FoundAmong : ℕ → Result (Option Node) Errno → Type 0
-FoundAmong backends (Ok (Some node)) = IsNodeAmong backends node
-FoundAmong backends found = Unit {0}
+FoundAmong backends = FoundIs (λ backend. backend < backends)
+
+node_among : (backends : ℕ) (node : Node) → IsNodeAmong backends node → NodeIs (λ backend. backend < backends) node
+node_among backends (Dir id) h = tt
+node_among backends (Mount backend) h = h
+node_among backends (FileNode file) h = tt
+node_among backends (Link id text) h = tt
 
 root_is_there : (backends backend : ℕ) → backend < backends → 0 < backends
 root_is_there backends backend h = omega (arith, h)
@@ -79,10 +88,11 @@ course_among backends manner (Ok (Some (Link id text))) [] slash links here h f 
 course_among backends manner (Ok (Some (Link id text))) (part ∷ rest) slash links here h f = through_among backends links text (part ∷ rest) slash here h
 
 found_among : (backends : ℕ) (op : NameOp) (answer : StepAnswer) → IsAnswerOf backends (NamesOp op) answer → FoundAmong backends (node_in answer)
-found_among backends op (Answered (NamesAnswer (Found node))) h = h.1
+found_among backends op (Answered (NamesAnswer (Found node))) h = node_among backends node h.1
 found_among backends op (Answered (NamesAnswer Absent)) h = tt
 found_among backends op (Answered (NamesAnswer answer)) h = tt
 found_among backends op (Answered (FilesAnswer answer)) h = tt
+found_among backends op (Answered (DescriptorsAnswer answer)) h = tt
 found_among backends op Cancelled h = tt
 found_among backends op Closed h = tt
 
@@ -114,12 +124,47 @@ after_among : (backends backend : ℕ) (given : StepAnswer) (file : Option ℕ) 
 after_among backends backend given None h = tt
 after_among backends backend given (Some file) h = ((h, rest_is_group file), λ answer form. tt)
 
+-- the same of calls on files
+abbrev Among : ℕ → ℕ → Plan → Type 0
+Among backends most p = StaysAmong backends (program_of p)
+
+fill_among : (backends : ℕ) (op : FdOp) → FillIs (λ backend. backend < backends) op → IsFdOpAmong backends op
+fill_among backends fd.Reserve h = tt
+fill_among backends (fd.FillFile number backend description) h = h
+fill_among backends (fd.FillDir number backend directory) h = h
+fill_among backends (fd.Drop number) h = tt
+fill_among backends (fd.Look number) h = tt
+fill_among backends (fd.Copy number) h = tt
+fill_among backends (fd.Copyto number target) h = tt
+fill_among backends (fd.Take number) h = tt
+
+among_grows : (backends : ℕ) → 0 < backends → Grows (Among backends) (λ backend. backend < backends) (IsAnswerOf backends)
+among_grows backends root = record {
+  over = λ most given. tt;
+  more = λ few most p le h. h;
+  on_names = λ few backend op next there each. (there, each);
+  on_files = λ few backend id op next there each. ((there, rest_is_group id), each);
+  on_numbers = λ few op next fill each. (fill_among backends op fill, each);
+  along = λ few from route next there each. walk_among backends from.names route.parts route.manner route.slash from.links from.spot (λ end. program_of (next end)) there each;
+  root = root;
+  found = λ op given told. found_among backends op given told;
+  taken = λ op node told. node_among backends node told.1;
+  named = λ op backend description told. told.1;
+  last = λ op backend description told. told.1;
+  fd_last = λ op number backend description told. told.1;
+}
+
 among_holds : (backends : ℕ) → 0 < backends → Holds (λ count p. StaysAmong backends (program_of p)) (λ backend. backend < backends)
 among_holds backends root = record {
   over = λ count given. tt;
   size = λ count backend file there. ((there, rest_is_group file), λ answer form. tt);
   last = λ count backend op there. (there, λ given form. after_among backends backend given (unlinked_by given) there);
   along = λ count route next each. walk_among backends path_names_max route.parts route.manner route.slash symloop_max (root_of 0) (λ end. program_of (next end)) root each;
+  uses_files = λ number purpose. uses_so (Among backends) (λ backend. backend < backends) (IsAnswerOf backends) (among_grows backends root) number purpose;
+  takes_numbers = λ number. changes_so (Among backends) (λ backend. backend < backends) (IsAnswerOf backends) (among_grows backends root) (fd.Take number) tt;
+  copies_numbers = λ number. changes_so (Among backends) (λ backend. backend < backends) (IsAnswerOf backends) (among_grows backends root) (fd.Copy number) tt;
+  copies_onto = λ number target. changes_so (Among backends) (λ backend. backend < backends) (IsAnswerOf backends) (among_grows backends root) (fd.Copyto number target) tt;
+  opens_paths = λ path flags. opens_so (Among backends) (λ backend. backend < backends) (IsAnswerOf backends) (among_grows backends root) path flags;
 }
 
 pub calls_stay_among : (backends : ℕ) (c : Call) → 0 < backends → StaysAmong backends (program c)

@@ -1,6 +1,5 @@
 -- A walk over a store that stands still ends where the path leads, and a call's steps are the call at once.
 use Rattle.std.proofs.Common.{◌≡◌, ℕ, ◌==◌, zero, suc, Bool, true, false, if◌then◌else◌, List, [], ◌∷◌, Option, None, Some, Result, Ok, slice_set, slice_get, unwrap_or, refl, ap, ◌∙◌}
-use Rattle.wf_core.specs.Limits.{path_names_max, symloop_max}
 use Rattle.wf_core.specs.declared.errno.Errno.{Errno}
 use Rattle.name_store.specs.declared.operation.Node.{Node}
 use Rattle.name_store.specs.declared.operation.NameOp.{NameOp}
@@ -18,11 +17,12 @@ use Rattle.path_walk.specs.declared.step.StoreAnswer.TheVariants.{Names as Names
 use Rattle.path_walk.specs.declared.step.StepAnswer.{StepAnswer}
 use Rattle.path_walk.specs.declared.step.StepAnswer.TheVariants.{Answered}
 use Rattle.path_walk.specs.declared.call.Call.{Call}
-use Rattle.path_walk.specs.Store.{Store, names_at, with_names, cstep}
+use Rattle.path_walk.specs.Store.{Store, Backend, names_at, with_names, cstep}
 use Rattle.path_walk.specs.PathMeaning.{Way, way, Course, ends, goes, course, end_of_course, on_found, entry_in, parent_in, root_of, spot_beside, resolve}
 use Rattle.path_walk.specs.Programs.{Program, asks, run}
 use Rattle.path_walk.specs.Walk.{node_in, course_on, program_on, walk}
-use Rattle.path_walk.specs.Calls.{Plan, replies, steps, walks, program_of, at_once, plan}
+use Rattle.path_walk.specs.Plans.{Plan, replies, steps, walks, program_of, at_once}
+use Rattle.path_walk.specs.Calls.{plan}
 use Rattle.path_walk.specs.Posix.{posix, program}
 
 -- putting back what is there changes nothing
@@ -33,7 +33,7 @@ put_back (x ∷ xs) zero d = refl
 put_back (x ∷ xs) (suc n) d = ap (λ (rest : List _). x ∷ rest) (put_back xs n d)
 
 pub same_names : (store : Store) (backend : ℕ) → with_names store backend (names_at store backend) ≡ store
-same_names store backend = put_back store backend _
+same_names store backend = ap (λ (backends : List Backend). let s : Store = record store { backends = backends } in s) (put_back store.backends backend _)
 
 -- what only asks leaves the names as they were, also where the directory is gone
 gone_or_same : (tree : Tree) (directory : Option Listing) (answer_of : Listing → NameAnswer) → (unless_gone tree directory (λ d. outcome_of tree (answer_of d))).tree ≡ tree
@@ -91,9 +91,9 @@ walks_lead store (suc names) (Down name ∷ rest) manner slash links here over =
 plans_run : (p : Plan) (store : Store) → run (program_of p) store ≡ at_once store p
 plans_run (replies given) store = refl
 plans_run (steps cell op next) store = plans_run (next (Answered (cstep store cell op).answer)) (cstep store cell op).store
-plans_run (walks route next) store =
-    walks_lead store path_names_max route.parts route.manner route.slash symloop_max (root_of 0) (λ end. program_of (next end))
-    ∙ plans_run (next (resolve store path_names_max route.parts route.manner route.slash symloop_max (root_of 0))) store
+plans_run (walks from route next) store =
+    walks_lead store from.names route.parts route.manner route.slash from.links from.spot (λ end. program_of (next end))
+    ∙ plans_run (next (resolve store from.names route.parts route.manner route.slash from.links from.spot)) store
 
 pub steps_are_the_call : (store : Store) (call : Call) → run (program call) store ≡ posix store call
 steps_are_the_call store call = plans_run (plan call) store

@@ -1,16 +1,13 @@
 -- The turns of the machine that take more than one look at the program.
-use Rattle.std.proofs.Common.{◌≡◌, ℕ, ◌==◌, ◌<◌, ◌||◌, zero, suc, Bool, true, false, if◌then◌else◌, List, ◌∷◌, Option, None, Result, Ok, refl, sym, ap, subst, ◌∙◌, arith}
+use Rattle.std.proofs.Common.{◌≡◌, ℕ, ◌==◌, ◌-◌, ◌<◌, ◌||◌, zero, suc, Bool, true, false, if◌then◌else◌, List, ◌∷◌, Option, None, Some, Result, Ok, Err, refl, sym, ap, subst, ◌∙◌, arith}
 use Rattle.wf_core.specs.declared.errno.Errno.{Errno}
 use Rattle.name_store.specs.declared.operation.NameOp.TheVariants.{Parent}
 use Rattle.path_walk.specs.declared.part.Part.{Part}
 use Rattle.path_walk.specs.declared.part.Part.TheVariants.{Up}
-use Rattle.path_walk.specs.declared.route.Manner.{Manner}
 use Rattle.path_walk.specs.declared.route.Spot.{Spot}
 use Rattle.path_walk.specs.declared.route.Route.{Route}
 use Rattle.path_walk.specs.declared.goal.Goal.{Goal}
-use Rattle.path_walk.specs.declared.goal.Goal.TheVariants.{Status, Text, Names, Entry, MoveTo}
-use Rattle.path_walk.specs.declared.goal.Change.{Change}
-use Rattle.path_walk.specs.declared.goal.Change.TheVariants as change
+use Rattle.path_walk.specs.declared.goal.Goal.TheVariants.{MoveTo, Open}
 use Rattle.path_walk.specs.declared.route.Manner.TheVariants.{Follows, Stays}
 use Rattle.path_walk.specs.declared.trail.Onward.TheVariants.{Goes}
 use Rattle.path_walk.specs.declared.call.Call.{Call}
@@ -18,19 +15,27 @@ use Rattle.path_walk.specs.declared.call.Call.TheVariants as call
 use Rattle.path_walk.specs.declared.trail.Trail.{Trail}
 use Rattle.path_walk.specs.declared.trail.Stage.{Stage}
 use Rattle.path_walk.specs.declared.trail.Stage.TheVariants.{Walking}
-use Rattle.path_walk.specs.declared.step.CellId.TheVariants.{Names as NamesCell}
-use Rattle.path_walk.specs.declared.step.StoreOp.TheVariants.{Names as NamesOp}
+use Rattle.file_store.specs.declared.descriptor_operation.FdOp.TheVariants.{Reserve}
+use Rattle.path_walk.specs.declared.open_request.OpenFlags.{OpenFlags}
+use Rattle.path_walk.specs.declared.open_request.OpenRequest.{OpenRequest}
+use Rattle.path_walk.specs.declared.open_request.OpenRoute.{OpenRoute}
+use Rattle.path_walk.specs.declared.route.Station.{Station}
+use Rattle.path_walk.specs.declared.call.Reply.TheVariants.{Fault}
+use Rattle.path_walk.specs.declared.step.CellId.TheVariants.{Names as NamesCell, Descriptors as DescriptorsCell}
+use Rattle.path_walk.specs.declared.step.StoreOp.TheVariants.{Names as NamesOp, Descriptors as DescriptorsOp}
 use Rattle.path_walk.specs.declared.call.Need.{Need}
 use Rattle.path_walk.specs.declared.call.Need.TheVariants.{Step}
-use Rattle.path_walk.specs.PathMeaning.{Course, ends, goes, root_of}
-use Rattle.path_walk.specs.Programs.{Program, asks}
+use Rattle.path_walk.specs.PathMeaning.{Course, ends, goes, root_of, path_start}
+use Rattle.path_walk.specs.Programs.{Program, asks, finished}
 use Rattle.path_walk.specs.Walk.{walk, node_in, course_on, program_on}
-use Rattle.path_walk.specs.Calls.{walks, on_ok, unless_fault, changes, change_plan, parent_plan, parent_route, whole_route, move_on, program_of}
+use Rattle.path_walk.specs.Plans.{steps, walks, on_ok, unless_fault, parent_route, whole_route, program_of}
+use Rattle.path_walk.specs.Calls.{move_on, text_fault}
+use Rattle.path_walk.specs.OpenPlan.{flags_fault, open_route, opens_along, reserved_plan}
 use Rattle.path_walk.specs.Posix.{program}
-use Rattle.path_walk.specs.Machine.{Meets, Shows, fault_of, goal_of, goal_plan, route_of, goal_program, trail_from, walk_of, way_of, way_up, walks_after, with_one_name_less}
+use Rattle.path_walk.specs.Machine.{Meets, Shows, fault_of, goal_of, goal_plan, open_route_of, route_of, goal_program, trail_from, walk_of, way_of, way_up, walks_after, with_one_name_less}
 
 -- the second path of a move
-pub moves_on : (last : Option Part) (slash : Bool) (new : Result Route Errno) (from : Spot) (route : Route) (trail : Trail) → new ≡ Ok route → trail ≡ trail_from route.parts route.manner route.slash (MoveTo from last (slash || route.slash) route.last) → (program_of (move_on last slash new from) ≡ walk_of trail (way_of trail)) × (walks_after trail.goal < 1)
+pub moves_on : (last : Option Part) (slash : Bool) (new : Result Route Errno) (from : Spot) (route : Route) (trail : Trail) → new ≡ Ok route → trail ≡ trail_from path_start route.parts route.manner route.slash (MoveTo from last (slash || route.slash) route.last) → (program_of (move_on last slash new from) ≡ walk_of trail (way_of trail)) × (walks_after trail.goal < 1)
 moves_on last slash new from route trail is e = rw (is, e) (refl, omega arith)
 
 -- a step asked for where a walk is not in the root
@@ -53,27 +58,61 @@ pub meets_goes : (old new : Trail) (c : Course) (need : Need) (stage : Stage) �
 meets_goes old new (ends end) need stage h shows = absurd h
 meets_goes old new (goes w) need stage h shows = subst (λ (t : Trail). Shows need (walk_of t (way_of t)) stage) h shows
 
--- a change along its route
-change_begins : (change : Change) (path : List ℕ) (route : Route) → parent_route path ≡ Ok route → walk_of (trail_from route.parts route.manner route.slash (Entry change route.last route.slash)) (way_of (trail_from route.parts route.manner route.slash (Entry change route.last route.slash))) ≡ program_of (changes change path)
-change_begins change path route is = sym (ap (λ (r : Result Route Errno). program_of (on_ok r (λ route. walks route (parent_plan route.last (change_plan change route.last route.slash))))) is)
+is_some : {X : Type 0} (x y : X) → Some x ≡ Some y → x ≡ y
+is_some x y e = cc
 
-whole_begins : (manner : Manner) (path : List ℕ) (route : Route) (goal : Goal) → whole_route manner path ≡ Ok route → walk_of (trail_from route.parts route.manner route.slash goal) (way_of (trail_from route.parts route.manner route.slash goal)) ≡ program_of (on_ok (whole_route manner path) (λ route. walks route (goal_plan goal)))
-whole_begins manner path route goal is = sym (ap (λ (r : Result Route Errno). program_of (on_ok r (λ route. walks route (goal_plan goal)))) is)
+-- a call that walks first, by what became of its route
+abbrev begun : Call → Option Errno → Result Route Errno → Program
+begun c fault r = program_of (unless_fault fault (on_ok r (λ route. walks path_start route (goal_plan (goal_of c route.last route.slash)))))
 
-begins_at : (c : Call) (route : Route) → fault_of c ≡ None → route_of c ≡ Ok route → walk_of (trail_from route.parts route.manner route.slash (goal_of c route.last route.slash)) (way_of (trail_from route.parts route.manner route.slash (goal_of c route.last route.slash))) ≡ program c
-begins_at (call.Mkdir path) route fault is = change_begins change.Makedir path route is
-begins_at (call.Rmdir path) route fault is = change_begins change.Remdir path route is
-begins_at (call.Unlink path) route fault is = change_begins change.Remfile path route is
-begins_at (call.Symlink text path) route fault is =
-    change_begins (change.Addlink text) path route is ∙ sym (ap (λ (f : Option Errno). program_of (unless_fault f (changes (change.Addlink text) path))) fault)
-begins_at (call.Rename path new) route fault is =
-    sym (ap (λ (r : Result Route Errno). program_of (on_ok r (λ route. walks route (parent_plan route.last (move_on route.last route.slash (parent_route new)))))) is)
-begins_at (call.Readlink path) route fault is = whole_begins Stays path route Text is
-begins_at (call.Stat path) route fault is = whole_begins Follows path route Status is
-begins_at (call.Lstat path) route fault is = whole_begins Stays path route Status is
-begins_at (call.List path start) route fault is = whole_begins Follows path route (Names start) is
+begins_so : (c : Call) (r : Result Route Errno) → Some r ≡ route_of c → program c ≡ begun c (fault_of c) r
+begins_so (call.Mkdir path) r is = sym (ap (begun (call.Mkdir path) None) (is_some r (parent_route path) is))
+begins_so (call.Rmdir path) r is = sym (ap (begun (call.Rmdir path) None) (is_some r (parent_route path) is))
+begins_so (call.Unlink path) r is = sym (ap (begun (call.Unlink path) None) (is_some r (parent_route path) is))
+begins_so (call.Symlink text path) r is = sym (ap (begun (call.Symlink text path) (text_fault text)) (is_some r (parent_route path) is))
+begins_so (call.Rename path new) r is = sym (ap (begun (call.Rename path new) None) (is_some r (parent_route path) is))
+begins_so (call.Readlink path) r is = sym (ap (begun (call.Readlink path) None) (is_some r (whole_route Stays path) is))
+begins_so (call.Stat path) r is = sym (ap (begun (call.Stat path) None) (is_some r (whole_route Follows path) is))
+begins_so (call.Lstat path) r is = sym (ap (begun (call.Lstat path) None) (is_some r (whole_route Stays path) is))
+begins_so (call.List path start) r is = sym (ap (begun (call.List path start) None) (is_some r (whole_route Follows path) is))
+begins_so (call.Open path flags) r is = cc
+begins_so (call.Close number) r is = cc
+begins_so (call.Dup number) r is = cc
+begins_so (call.Dup2 number target) r is = cc
+begins_so (call.Read number count) r is = cc
+begins_so (call.Pread number count offset) r is = cc
+begins_so (call.Write number bytes) r is = cc
+begins_so (call.Pwrite number bytes offset) r is = cc
+begins_so (call.Seek number offset whence) r is = cc
+begins_so (call.Ftruncate number size) r is = cc
+begins_so (call.Fstat number) r is = cc
+
+-- a call that is refused before any path of it
+pub begins_refused : (c : Call) (r : Result Route Errno) (error : Errno) (need : Need) (stage : Stage) → Some r ≡ route_of c → fault_of c ≡ Some error → Shows need (finished (Fault error)) stage → Shows need (program c) stage
+begins_refused c r error need stage first fault shows =
+    subst (λ p. Shows need p stage) (sym (begins_so c r first ∙ ap (λ (f : Option Errno). begun c f r) fault)) shows
+
+-- a call whose path is not walked
+pub begins_in_error : (c : Call) (r : Result Route Errno) (error : Errno) (need : Need) (stage : Stage) → Some r ≡ route_of c → fault_of c ≡ None → r ≡ Err error → Shows need (finished (Fault error)) stage → Shows need (program c) stage
+begins_in_error c r error need stage first fault is shows =
+    subst (λ p. Shows need p stage) (sym (begins_so c r first ∙ ap (λ (f : Option Errno). begun c f r) fault ∙ ap (begun c None) is)) shows
 
 -- a call begins along its first route
-pub begins_along : (c : Call) (route : Route) (trail : Trail) (goal : Goal) → fault_of c ≡ None → route_of c ≡ Ok route → trail ≡ trail_from route.parts route.manner route.slash goal → goal ≡ goal_of c route.last route.slash → walk_of trail (way_of trail) ≡ program c
-begins_along c route trail goal fault is e f =
-    ap (λ (t : Trail). walk_of t (way_of t)) (e ∙ ap (λ (g : Goal). trail_from route.parts route.manner route.slash g) f) ∙ begins_at c route fault is
+pub begins_along : (c : Call) (r : Result Route Errno) (route : Route) (trail : Trail) (goal : Goal) (need : Need) (stage : Stage) → Some r ≡ route_of c → fault_of c ≡ None → r ≡ Ok route → trail ≡ trail_from path_start route.parts route.manner route.slash goal → goal ≡ goal_of c route.last route.slash → Shows need (walk_of trail (way_of trail)) stage → Shows need (program c) stage
+begins_along c r route trail goal need stage first fault is e f shows =
+    let begins : walk_of trail (way_of trail) ≡ begun c None (Ok route) = ap (λ (t : Trail). walk_of t (way_of t)) (e ∙ ap (λ (g : Goal). trail_from path_start route.parts route.manner route.slash g) f) in
+    subst (λ p. Shows need p stage) (begins ∙ sym (begins_so c r first ∙ ap (λ (f : Option Errno). begun c f r) fault ∙ ap (begun c None) is)) shows
+
+-- an `open` goes along a path while it has walks
+pub opens_on : (walks_left few : ℕ) (request : OpenRequest) (from : Station) (route : OpenRoute) (trail : Trail) (need : Need) (stage : Stage) → (walks_left ≡ 0 → ⊥) → few ≡ walks_left - 1 → trail ≡ trail_from from route.route.parts route.route.manner route.route.slash (Open few request route.name) → Shows need (walk_of trail (way_of trail)) stage → Shows need (program_of (opens_along walks_left request from route)) stage
+unfolding opens_along
+opens_on zero few request from route trail need stage some e is shows = absurd (some refl)
+opens_on (suc walks_left) few request from route trail need stage some e is shows =
+    let fewer : few ≡ walks_left = omega (arith, e) in
+    subst (λ (t : Trail). Shows need (walk_of t (way_of t)) stage) (is ∙ ap (λ (n : ℕ). trail_from from route.route.parts route.route.manner route.route.slash (Open n request route.name)) fewer) shows
+
+-- an `open` begins with the reservation of a number
+pub begins_opening : (c : Call) (path : List ℕ) (flags : OpenFlags) (route : Result OpenRoute Errno) (need : Need) (stage : Stage) → c ≡ call.Open path flags → Some route ≡ open_route_of c → Shows need (program_of (unless_fault (flags_fault flags) (steps DescriptorsCell (DescriptorsOp Reserve) (reserved_plan flags route)))) stage → Shows need (program c) stage
+begins_opening c path flags route need stage is first shows =
+    subst (λ (c : Call). Shows need (program c) stage) (sym is)
+    (subst (λ (r : Result OpenRoute Errno). Shows need (program_of (unless_fault (flags_fault flags) (steps DescriptorsCell (DescriptorsOp Reserve) (reserved_plan flags r)))) stage) (is_some route (open_route path) (first ∙ ap open_route_of is)) shows)

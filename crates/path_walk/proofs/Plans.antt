@@ -5,6 +5,12 @@ use Rattle.wf_core.specs.declared.errno.Errno.TheVariants.{Einval, Enotdir, Exde
 use Rattle.name_store.specs.declared.operation.NameOp.{NameOp}
 use Rattle.name_store.specs.declared.operation.NameOp.TheVariants.{Move, List as ListOp}
 use Rattle.file_store.specs.declared.file_operation.FileOp.TheVariants.{Sizeof}
+use Rattle.file_store.specs.declared.descriptor_operation.FdOp.TheVariants as fd
+use Rattle.path_walk.specs.declared.descriptor_call.FileUse.{FileUse}
+use Rattle.path_walk.specs.declared.descriptor_call.FileUse.TheVariants as file_use
+use Rattle.path_walk.specs.declared.open_request.OpenFlags.{OpenFlags}
+use Rattle.path_walk.specs.DescriptorCalls.{changes_numbers, uses}
+use Rattle.path_walk.specs.OpenPlan.{opens}
 use Rattle.path_walk.specs.declared.part.Part.{Part}
 use Rattle.path_walk.specs.declared.route.Manner.{Manner}
 use Rattle.path_walk.specs.declared.route.Manner.TheVariants.{Follows, Stays}
@@ -19,27 +25,34 @@ use Rattle.path_walk.specs.declared.call.Call.{Call}
 use Rattle.path_walk.specs.declared.call.Call.TheVariants as call
 use Rattle.path_walk.specs.declared.call.Reply.{Reply}
 use Rattle.path_walk.specs.declared.call.Reply.TheVariants as reply
-use Rattle.path_walk.specs.Calls.{Plan, replies, steps, walks, fails, on_ok, ok_unless, unless_fault, plan, cell_of_file, reply_to, last_fault, last_step, status_plan, text_plan, list_plan, parent_plan, parent_of, change_plan, changes, name_of, faults_of, op_of, move_faults, move_on, move_plan, slash_fault, text_fault, parent_route, whole_route}
+use Rattle.path_walk.specs.Plans.{Plan, replies, steps, walks, fails, on_ok, ok_unless, unless_fault, cell_of_id, reply_to, parent_route, whole_route}
+use Rattle.path_walk.specs.Calls.{plan, last_fault, last_step, status_plan, text_plan, list_plan, parent_plan, parent_of, change_plan, changes, name_of, faults_of, op_of, move_faults, move_on, move_plan, slash_fault, text_fault}
+use Rattle.path_walk.specs.PathMeaning.{path_start}
 
 -- the backend of a walk's end is so
 abbrev pub EndIs : (ℕ → Type 0) → Result End Errno → Type 0
-EndIs There (Ok (Directory names spot)) = There spot.backend
+EndIs There (Ok (Directory there)) = There there.spot.backend
 EndIs There (Ok (File backend file)) = There backend
 EndIs There end = Unit {0}
 
 -- where each backend is, each end is
 pub any_end : (end : Result End Errno) → EndIs (λ backend. Unit {0}) end
 any_end (Err error) = tt
-any_end (Ok (Directory names spot)) = tt
+any_end (Ok (Directory there)) = tt
 any_end (Ok (File backend file)) = tt
 any_end (Ok (LinkText text)) = tt
 
 -- a fact of plans with so many walks, which holds of what plans are made of, on backends that are so
 pub record Holds (P : ℕ → Plan → Type 0) (There : ℕ → Type 0) : Type 0 where
   pub over : (count : ℕ) (given : Reply) → P count (replies given)
-  pub size : (count backend file : ℕ) → There backend → P count (steps (cell_of_file backend file) (FilesOp (Sizeof file)) (λ given. replies (reply_to given)))
+  pub size : (count backend file : ℕ) → There backend → P count (steps (cell_of_id backend file) (FilesOp (Sizeof file)) (λ given. replies (reply_to given)))
   pub last : (count backend : ℕ) (op : NameOp) → There backend → P count (last_step backend op)
-  pub along : (count : ℕ) (route : Route) (next : Result End Errno → Plan) → ((end : Result End Errno) → EndIs There end → P count (next end)) → P (suc count) (walks route next)
+  pub uses_files : (number : ℕ) (purpose : FileUse) → P 2 (uses number purpose)
+  pub takes_numbers : (number : ℕ) → P 2 (changes_numbers (fd.Take number))
+  pub copies_numbers : (number : ℕ) → P 2 (changes_numbers (fd.Copy number))
+  pub copies_onto : (number target : ℕ) → P 2 (changes_numbers (fd.Copyto number target))
+  pub opens_paths : (path : List ℕ) (flags : OpenFlags) → P 2 (opens path flags)
+  pub along : (count : ℕ) (route : Route) (next : Result End Errno → Plan) → ((end : Result End Errno) → EndIs There end → P count (next end)) → P (suc count) (walks path_start route next)
 
 module _ (P : ℕ → Plan → Type 0) (There : ℕ → Type 0) (holds : Holds P There) where
   fails_so : (count : ℕ) (error : Errno) → P count (fails error)
@@ -55,19 +68,19 @@ module _ (P : ℕ → Plan → Type 0) (There : ℕ → Type 0) (holds : Holds P
 
   status_so : (count : ℕ) (end : Result End Errno) → EndIs There end → P count (status_plan end)
   status_so count (Err error) there = fails_so count error
-  status_so count (Ok (Directory names spot)) there = holds.over count reply.Dir
+  status_so count (Ok (Directory station)) there = holds.over count reply.Dir
   status_so count (Ok (File backend file)) there = holds.size count backend file there
   status_so count (Ok (LinkText text)) there = holds.over count _
 
   text_so : (count : ℕ) (end : Result End Errno) → EndIs There end → P count (text_plan end)
   text_so count (Err error) there = fails_so count error
-  text_so count (Ok (Directory names spot)) there = fails_so count Einval
+  text_so count (Ok (Directory station)) there = fails_so count Einval
   text_so count (Ok (File backend file)) there = fails_so count Einval
   text_so count (Ok (LinkText text)) there = holds.over count (reply.Text text)
 
   list_so : (count start : ℕ) (end : Result End Errno) → EndIs There end → P count (list_plan start end)
   list_so count start (Err error) there = fails_so count error
-  list_so count start (Ok (Directory names spot)) there = holds.last count spot.backend (ListOp spot.directory start) there
+  list_so count start (Ok (Directory station)) there = holds.last count station.spot.backend (ListOp station.spot.directory start) there
   list_so count start (Ok (File backend file)) there = fails_so count Enotdir
   list_so count start (Ok (LinkText text)) there = fails_so count Enotdir
 
@@ -76,7 +89,7 @@ module _ (P : ℕ → Plan → Type 0) (There : ℕ → Type 0) (holds : Holds P
   spot_is None spot there e = cc
 
   parent_there : (last : Option Part) (end : End) (spot : Spot) → EndIs There (Ok end) → parent_of last end ≡ Ok spot → There spot.backend
-  parent_there last (Directory names here) spot there e = subst (λ (s : Spot). There s.backend) (sym (spot_is (last_fault last names) here spot e)) there
+  parent_there last (Directory station) spot there e = subst (λ (s : Spot). There s.backend) (sym (spot_is (last_fault last station.names) station.spot spot e)) there
   parent_there last (File backend file) spot there e = cc
   parent_there last (LinkText text) spot there e = cc
 
@@ -101,18 +114,18 @@ module _ (P : ℕ → Plan → Type 0) (There : ℕ → Type 0) (holds : Holds P
 
   move_on_so : (last : Option Part) (slash : Bool) (new : Result Route Errno) (from : Spot) → There from.backend → P 1 (move_on last slash new from)
   move_on_so last slash new from there =
-      on_ok_so 1 new (λ route. walks route (parent_plan route.last (move_plan from last (slash || route.slash) route.last))) (λ route e.
+      on_ok_so 1 new (λ route. walks path_start route (parent_plan route.last (move_plan from last (slash || route.slash) route.last))) (λ route e.
       holds.along 0 route (parent_plan route.last (move_plan from last (slash || route.slash) route.last))
       (parent_so 0 route.last (move_plan from last (slash || route.slash) route.last) (λ to h. move_so 0 from last (slash || route.slash) route.last to there)))
 
   changes_so : (change : Change) (path : List ℕ) → P 2 (changes change path)
   changes_so change path =
-      on_ok_so 2 (parent_route path) (λ route. walks route (parent_plan route.last (change_plan change route.last route.slash))) (λ route e.
+      on_ok_so 2 (parent_route path) (λ route. walks path_start route (parent_plan route.last (change_plan change route.last route.slash))) (λ route e.
       holds.along 1 route (parent_plan route.last (change_plan change route.last route.slash))
       (parent_so 1 route.last (change_plan change route.last route.slash) (λ spot there. change_so 1 change route.last route.slash spot there)))
 
-  whole_so : (manner : Manner) (path : List ℕ) (next : Result End Errno → Plan) → ((end : Result End Errno) → EndIs There end → P 1 (next end)) → P 2 (on_ok (whole_route manner path) (λ route. walks route next))
-  whole_so manner path next each = on_ok_so 2 (whole_route manner path) (λ route. walks route next) (λ route e. holds.along 1 route next each)
+  whole_so : (manner : Manner) (path : List ℕ) (next : Result End Errno → Plan) → ((end : Result End Errno) → EndIs There end → P 1 (next end)) → P 2 (on_ok (whole_route manner path) (λ route. walks path_start route next))
+  whole_so manner path next each = on_ok_so 2 (whole_route manner path) (λ route. walks path_start route next) (λ route e. holds.along 1 route next each)
 
   pub each_call : (c : Call) → P 2 (plan c)
   each_call (call.Mkdir path) = changes_so change.Makedir path
@@ -120,10 +133,21 @@ module _ (P : ℕ → Plan → Type 0) (There : ℕ → Type 0) (holds : Holds P
   each_call (call.Unlink path) = changes_so change.Remfile path
   each_call (call.Symlink text path) = unless_so 2 (text_fault text) (changes (change.Addlink text) path) (changes_so (change.Addlink text) path)
   each_call (call.Rename path new) =
-      on_ok_so 2 (parent_route path) (λ route. walks route (parent_plan route.last (move_on route.last route.slash (parent_route new)))) (λ route e.
+      on_ok_so 2 (parent_route path) (λ route. walks path_start route (parent_plan route.last (move_on route.last route.slash (parent_route new)))) (λ route e.
       holds.along 1 route (parent_plan route.last (move_on route.last route.slash (parent_route new)))
       (parent_so 1 route.last (move_on route.last route.slash (parent_route new)) (λ from there. move_on_so route.last route.slash (parent_route new) from there)))
   each_call (call.Readlink path) = whole_so Stays path text_plan (text_so 1)
   each_call (call.Stat path) = whole_so Follows path status_plan (status_so 1)
   each_call (call.Lstat path) = whole_so Stays path status_plan (status_so 1)
   each_call (call.List path start) = whole_so Follows path (list_plan start) (list_so 1 start)
+  each_call (call.Open path flags) = holds.opens_paths path flags
+  each_call (call.Close number) = holds.takes_numbers number
+  each_call (call.Dup number) = holds.copies_numbers number
+  each_call (call.Dup2 number target) = holds.copies_onto number target
+  each_call (call.Read number count) = holds.uses_files number (file_use.Read count)
+  each_call (call.Pread number count offset) = holds.uses_files number (file_use.Readat count offset)
+  each_call (call.Write number bytes) = holds.uses_files number (file_use.Write bytes)
+  each_call (call.Pwrite number bytes offset) = holds.uses_files number (file_use.Writeat bytes offset)
+  each_call (call.Seek number offset whence) = holds.uses_files number (file_use.Seek offset whence)
+  each_call (call.Ftruncate number size) = holds.uses_files number (file_use.Cut size)
+  each_call (call.Fstat number) = holds.uses_files number file_use.Size

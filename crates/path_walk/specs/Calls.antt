@@ -1,21 +1,19 @@
--- Each call as a plan: which paths it walks, what it asks for at their ends, and what it replies. After POSIX.1-2017,
+-- Each call as a plan. After POSIX.1-2017,
 -- XSH mkdir(), rmdir(), unlink(), symlink(), rename(), readlink(), stat() and lstat(); `list` is this project's own,
 -- after readdir(). A row marked (own) is this project's reading where POSIX leaves it open, or its own limit.
-use Rattle.std.specs.Prelude.{ℕ, ◌==◌, ◌%◌, ◌||◌, zero, nat_lt, if◌then◌else◌, Bool, true, List, length, Option, None, Some, Result, Ok, Err}
-use Rattle.wf_core.specs.Limits.{group_count, path_names_max, symloop_max, symlink_max}
+use Rattle.std.specs.Prelude.{ℕ, ◌==◌, ◌||◌, zero, nat_lt, if◌then◌else◌, Bool, true, List, length, Option, None, Some, Result, Ok, Err}
+use Rattle.wf_core.specs.Limits.{symlink_max}
 use Rattle.wf_core.specs.declared.errno.Errno.{Errno}
-use Rattle.wf_core.specs.declared.errno.Errno.TheVariants.{Enoent, Eexist, Enotdir, Eisdir, Enotempty, Einval, Ebusy, Exdev, Enametoolong, Ecanceled, Enxio}
+use Rattle.wf_core.specs.declared.errno.Errno.TheVariants.{Enoent, Eexist, Enotdir, Eisdir, Enotempty, Einval, Ebusy, Exdev, Enametoolong}
 use Rattle.name_store.specs.declared.operation.NameOp.{NameOp}
 use Rattle.name_store.specs.declared.operation.NameOp.TheVariants as op
-use Rattle.name_store.specs.declared.operation.NameAnswer.{NameAnswer}
 use Rattle.name_store.specs.declared.operation.NameAnswer.TheVariants as answer
 use Rattle.file_store.specs.declared.file_operation.FileOp.TheVariants.{Sizeof, Unlinked}
-use Rattle.file_store.specs.declared.file_operation.FileAnswer.{FileAnswer}
-use Rattle.file_store.specs.declared.file_operation.FileAnswer.TheVariants as file_answer
+use Rattle.file_store.specs.declared.descriptor_operation.FdOp.TheVariants as fd
+use Rattle.path_walk.specs.declared.descriptor_call.FileUse.TheVariants as file_use
 use Rattle.path_walk.specs.declared.part.Part.{Part}
 use Rattle.path_walk.specs.declared.part.Part.TheVariants.{Here, Up, Down, TooLong}
-use Rattle.path_walk.specs.declared.route.Manner.{Manner}
-use Rattle.path_walk.specs.declared.route.Manner.TheVariants.{OnWay, Follows, Stays}
+use Rattle.path_walk.specs.declared.route.Manner.TheVariants.{Follows, Stays}
 use Rattle.path_walk.specs.declared.route.Spot.{Spot}
 use Rattle.path_walk.specs.declared.route.End.{End}
 use Rattle.path_walk.specs.declared.route.End.TheVariants.{Directory, File, LinkText}
@@ -23,91 +21,18 @@ use Rattle.path_walk.specs.declared.route.Route.{Route}
 use Rattle.path_walk.specs.declared.goal.Change.{Change}
 use Rattle.path_walk.specs.declared.goal.Change.TheVariants as change
 use Rattle.path_walk.specs.declared.goal.LastFaults.{LastFaults}
-use Rattle.path_walk.specs.declared.step.CellId.{CellId}
-use Rattle.path_walk.specs.declared.step.CellId.TheVariants.{Names as NamesCell, Files as FilesCell}
-use Rattle.path_walk.specs.declared.step.StoreOp.{StoreOp}
+use Rattle.path_walk.specs.declared.step.CellId.TheVariants.{Names as NamesCell}
 use Rattle.path_walk.specs.declared.step.StoreOp.TheVariants.{Names as NamesOp, Files as FilesOp}
-use Rattle.path_walk.specs.declared.step.StoreAnswer.TheVariants.{Names as NamesAnswer, Files as FilesAnswer}
+use Rattle.path_walk.specs.declared.step.StoreAnswer.TheVariants.{Names as NamesAnswer}
 use Rattle.path_walk.specs.declared.step.StepAnswer.{StepAnswer}
-use Rattle.path_walk.specs.declared.step.StepAnswer.TheVariants.{Answered, Cancelled, Closed}
+use Rattle.path_walk.specs.declared.step.StepAnswer.TheVariants.{Answered}
 use Rattle.path_walk.specs.declared.call.Call.{Call}
 use Rattle.path_walk.specs.declared.call.Call.TheVariants as call
-use Rattle.path_walk.specs.declared.call.Reply.{Reply}
 use Rattle.path_walk.specs.declared.call.Reply.TheVariants as reply
-use Rattle.path_walk.specs.Paths.{parts_of, last_of, front_of, slash_of, path_fault}
-use Rattle.path_walk.specs.PathMeaning.{root_of, resolve}
-use Rattle.path_walk.specs.Store.{Store, cstep}
-use Rattle.path_walk.specs.Programs.{Program, finished, asks, CallOutcome, replied}
-use Rattle.path_walk.specs.Walk.{walk}
-
--- a plan replies, asks for a step, or walks along a route and goes on from its end
-pub data Plan : Type 0 where
-  replies : Reply → Plan
-  steps : CellId → StoreOp → (StepAnswer → Plan) → Plan
-  walks : Route → (Result End Errno → Plan) → Plan
-
--- the steps of a plan
-abbrev pub program_of : Plan → Program
-program_of (replies given) = finished given
-program_of (steps cell op next) = asks cell op (λ answer. program_of (next answer))
-program_of (walks route next) = walk path_names_max route.parts route.manner route.slash symloop_max (root_of 0) (λ end. program_of (next end))
-
--- a plan at once, over a store that nobody else changes
-abbrev pub at_once : Store → Plan → CallOutcome
-at_once store (replies given) = replied store given
-at_once store (steps cell op next) = let stepped = cstep store cell op in at_once stepped.store (next (Answered stepped.answer))
-at_once store (walks route next) = at_once store (next (resolve store path_names_max route.parts route.manner route.slash symloop_max (root_of 0)))
-
-abbrev pub fails : Errno → Plan
-fails error = replies (reply.Fault error)
-
--- the first refusal, or else the plan
-abbrev pub unless_fault : Option Errno → Plan → Plan
-unless_fault (Some error) plan = fails error
-unless_fault None plan = plan
-
-abbrev pub on_ok : {A : Type 0} → Result A Errno → (A → Plan) → Plan
-on_ok (Ok x) next = next x
-on_ok (Err error) next = fails error
-
-abbrev pub ok_unless : {A : Type 0} → Option Errno → A → Result A Errno
-ok_unless (Some error) x = Err error
-ok_unless None x = Ok x
-
--- Routes.
-
--- along the whole path
-abbrev pub whole_route : Manner → List ℕ → Result Route Errno
-whole_route manner path = ok_unless (path_fault path) (record { parts = parts_of path; last = None; manner = manner; slash = slash_of path })
-
--- along the path before its last component
-abbrev pub parent_route : List ℕ → Result Route Errno
-parent_route path = ok_unless (path_fault path) (record { parts = front_of (parts_of path); last = last_of (parts_of path); manner = OnWay; slash = slash_of path })
-
--- Last steps.
-
--- the cell of a file
-abbrev pub cell_of_file : ℕ → ℕ → CellId
-cell_of_file backend file = FilesCell backend (file % group_count)
-
--- what a call replies to the answer to its last step
-abbrev pub reply_to_names : NameAnswer → Reply
-reply_to_names (answer.Names names) = reply.Names names
-reply_to_names (answer.Fault error) = reply.Fault error
-reply_to_names answer.Gone = reply.Fault Enoent
-reply_to_names given = reply.Done
-
-abbrev pub reply_to_files : FileAnswer → Reply
-reply_to_files (file_answer.Size size) = reply.File size
-reply_to_files (file_answer.Fault error) = reply.Fault error
-reply_to_files file_answer.Gone = reply.Fault Enoent
-reply_to_files given = reply.Done
-
-abbrev pub reply_to : StepAnswer → Reply
-reply_to (Answered (NamesAnswer given)) = reply_to_names given
-reply_to (Answered (FilesAnswer given)) = reply_to_files given
-reply_to Cancelled = reply.Fault Ecanceled
-reply_to Closed = reply.Fault Enxio
+use Rattle.path_walk.specs.PathMeaning.{path_start}
+use Rattle.path_walk.specs.Plans.{Plan, replies, steps, walks, fails, unless_fault, on_ok, ok_unless, whole_route, parent_route, cell_of_id, reply_to}
+use Rattle.path_walk.specs.DescriptorCalls.{changes_numbers, uses}
+use Rattle.path_walk.specs.OpenPlan.{opens}
 
 -- the file that a step on names has left without an entry, which its group is to know
 abbrev pub unlinked_by : StepAnswer → Option ℕ
@@ -117,7 +42,7 @@ unlinked_by given = None
 
 -- after the last step on names of a backend
 abbrev pub plan_after : ℕ → StepAnswer → Option ℕ → Plan
-plan_after backend given (Some file) = steps (cell_of_file backend file) (FilesOp (Unlinked file)) (λ given. replies (reply_to given))
+plan_after backend given (Some file) = steps (cell_of_id backend file) (FilesOp (Unlinked file)) (λ given. replies (reply_to given))
 plan_after backend given None = replies (reply_to given)
 
 abbrev pub last_step : ℕ → NameOp → Plan
@@ -128,21 +53,21 @@ last_step backend op = steps (NamesCell backend) (NamesOp op) (λ given. plan_af
 -- `stat` and `lstat`
 abbrev pub status_plan : Result End Errno → Plan
 status_plan (Err error) = fails error
-status_plan (Ok (Directory names spot)) = replies reply.Dir
-status_plan (Ok (File backend file)) = steps (cell_of_file backend file) (FilesOp (Sizeof file)) (λ given. replies (reply_to given))
+status_plan (Ok (Directory there)) = replies reply.Dir
+status_plan (Ok (File backend file)) = steps (cell_of_id backend file) (FilesOp (Sizeof file)) (λ given. replies (reply_to given))
 status_plan (Ok (LinkText text)) = replies (reply.Link (length text))
 
 -- `readlink`
 abbrev pub text_plan : Result End Errno → Plan
 text_plan (Err error) = fails error
-text_plan (Ok (Directory names spot)) = fails Einval
+text_plan (Ok (Directory there)) = fails Einval
 text_plan (Ok (File backend file)) = fails Einval
 text_plan (Ok (LinkText text)) = replies (reply.Text text)
 
 -- `list`
 abbrev pub list_plan : ℕ → Result End Errno → Plan
 list_plan start (Err error) = fails error
-list_plan start (Ok (Directory names spot)) = last_step spot.backend (op.List spot.directory start)
+list_plan start (Ok (Directory there)) = last_step there.spot.backend (op.List there.spot.directory start)
 list_plan start (Ok (File backend file)) = fails Enotdir
 list_plan start (Ok (LinkText text)) = fails Enotdir
 
@@ -156,7 +81,7 @@ last_fault last names = None
 
 -- the directory at the end of the path before its last component, if that may still be taken
 abbrev pub parent_of : Option Part → End → Result Spot Errno
-parent_of last (Directory names spot) = ok_unless (last_fault last names) spot
+parent_of last (Directory there) = ok_unless (last_fault last there.names) there.spot
 parent_of last (File backend file) = Err Enotdir
 parent_of last (LinkText text) = Err Enotdir
 
@@ -200,7 +125,7 @@ change_plan change last slash spot =
     unless_fault (slash_fault change slash) (last_step spot.backend (op_of change spot.directory name slash)))
 
 abbrev pub changes : Change → List ℕ → Plan
-changes change path = on_ok (parent_route path) (λ route. walks route (parent_plan route.last (change_plan change route.last route.slash)))
+changes change path = on_ok (parent_route path) (λ route. walks path_start route (parent_plan route.last (change_plan change route.last route.slash)))
 
 -- `symlink`: an empty text is ENOENT, a long one ENAMETOOLONG (own)
 abbrev pub text_fault : List ℕ → Option Errno
@@ -220,7 +145,7 @@ move_plan from last slash new_last to =
     on_ok (name_of move_faults new_last) (λ new_name. move_step from name slash to new_name))
 
 abbrev pub move_on : Option Part → Bool → Result Route Errno → Spot → Plan
-move_on last slash new from = on_ok new (λ route. walks route (parent_plan route.last (move_plan from last (slash || route.slash) route.last)))
+move_on last slash new from = on_ok new (λ route. walks path_start route (parent_plan route.last (move_plan from last (slash || route.slash) route.last)))
 
 -- each call
 abbrev pub plan : Call → Plan
@@ -228,8 +153,19 @@ plan (call.Mkdir path) = changes change.Makedir path
 plan (call.Rmdir path) = changes change.Remdir path
 plan (call.Unlink path) = changes change.Remfile path
 plan (call.Symlink text path) = unless_fault (text_fault text) (changes (change.Addlink text) path)
-plan (call.Rename path new) = on_ok (parent_route path) (λ route. walks route (parent_plan route.last (move_on route.last route.slash (parent_route new))))
-plan (call.Readlink path) = on_ok (whole_route Stays path) (λ route. walks route text_plan)
-plan (call.Stat path) = on_ok (whole_route Follows path) (λ route. walks route status_plan)
-plan (call.Lstat path) = on_ok (whole_route Stays path) (λ route. walks route status_plan)
-plan (call.List path start) = on_ok (whole_route Follows path) (λ route. walks route (list_plan start))
+plan (call.Rename path new) = on_ok (parent_route path) (λ route. walks path_start route (parent_plan route.last (move_on route.last route.slash (parent_route new))))
+plan (call.Readlink path) = on_ok (whole_route Stays path) (λ route. walks path_start route text_plan)
+plan (call.Stat path) = on_ok (whole_route Follows path) (λ route. walks path_start route status_plan)
+plan (call.Lstat path) = on_ok (whole_route Stays path) (λ route. walks path_start route status_plan)
+plan (call.List path start) = on_ok (whole_route Follows path) (λ route. walks path_start route (list_plan start))
+plan (call.Open path flags) = opens path flags
+plan (call.Close number) = changes_numbers (fd.Take number)
+plan (call.Dup number) = changes_numbers (fd.Copy number)
+plan (call.Dup2 number target) = changes_numbers (fd.Copyto number target)
+plan (call.Read number count) = uses number (file_use.Read count)
+plan (call.Pread number count offset) = uses number (file_use.Readat count offset)
+plan (call.Write number bytes) = uses number (file_use.Write bytes)
+plan (call.Pwrite number bytes offset) = uses number (file_use.Writeat bytes offset)
+plan (call.Seek number offset whence) = uses number (file_use.Seek offset whence)
+plan (call.Ftruncate number size) = uses number (file_use.Cut size)
+plan (call.Fstat number) = uses number file_use.Size

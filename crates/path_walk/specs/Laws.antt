@@ -1,9 +1,7 @@
 -- Laws of the definitions, which say what a user may conclude from them.
 use Rattle.std.specs.Prelude.{◌≡◌, ℕ, ◌<◌}
 use Rattle.wf_core.specs.Limits.{call_steps_max}
-use Rattle.wf_core.specs.declared.errno.Errno.{Errno}
 use Rattle.path_walk.specs.declared.call.Call.{Call}
-use Rattle.path_walk.specs.declared.call.Reply.TheVariants.{Fault}
 use Rattle.path_walk.specs.Store.{Store}
 use Rattle.path_walk.specs.Programs.{run, IsWithin, StaysAmong}
 use Rattle.path_walk.specs.Posix.{posix, program}
@@ -19,7 +17,3 @@ CallsEnd = (call : Call) → IsWithin call_steps_max (program call)
 -- each step of a call is on a backend that is there, the root's or one that an answer named
 abbrev pub CallsStayAmong : Type 0
 CallsStayAmong = (backends : ℕ) (call : Call) → 0 < backends → StaysAmong backends (program call)
-
--- a call that replies an error leaves the store as it was
-abbrev pub ErrorsChangeNothing : Type 0
-ErrorsChangeNothing = (store : Store) (call : Call) (error : Errno) → (posix store call).reply ≡ Fault error → (posix store call).store ≡ store

@@ -4,11 +4,12 @@ pub mod PathMeaning
 pub mod Backing
 pub mod Programs
 pub mod Walk
+pub mod Plans
+pub mod DescriptorCalls
+pub mod OpenPlan
 pub mod Calls
 pub mod Posix
 pub mod Alone
+pub mod OpenStages
 pub mod Machine
-pub mod Entries
 pub mod Laws
-pub mod EntryLaws
-pub mod PathLaws

@@ -1,6 +1,5 @@
 -- What a machine of one call stands for: the program that is left of the call.
 use Rattle.std.specs.Prelude.{◌≡◌, ℕ, ◌-◌, ◌<◌, Bool, List, ◌∷◌, Option, None, Some, Result}
-use Rattle.wf_core.specs.Limits.{path_names_max, symloop_max}
 use Rattle.wf_core.specs.declared.errno.Errno.{Errno}
 use Rattle.path_walk.specs.declared.step.StepAnswer.{StepAnswer}
 use Rattle.path_walk.specs.declared.call.Reply.TheVariants.{Done}
@@ -12,7 +11,9 @@ use Rattle.path_walk.specs.declared.call.Call.{Call}
 use Rattle.path_walk.specs.declared.call.Call.TheVariants as call
 use Rattle.path_walk.specs.declared.route.Manner.{Manner}
 use Rattle.path_walk.specs.declared.route.Manner.TheVariants.{Follows, Stays}
+use Rattle.path_walk.specs.declared.route.Station.{Station}
 use Rattle.path_walk.specs.declared.route.Route.{Route}
+use Rattle.path_walk.specs.declared.open_request.OpenRoute.{OpenRoute}
 use Rattle.path_walk.specs.declared.route.End.{End}
 use Rattle.path_walk.specs.declared.goal.Change.TheVariants as change
 use Rattle.path_walk.specs.declared.goal.Goal.{Goal}
@@ -20,17 +21,21 @@ use Rattle.path_walk.specs.declared.goal.Reached.{Reached}
 use Rattle.path_walk.specs.declared.goal.Reached.TheVariants.{Turn as ReachedTurn, Trail as ReachedTrail}
 use Rattle.path_walk.specs.declared.trail.Advance.{Advance}
 use Rattle.path_walk.specs.declared.trail.Advance.TheVariants.{Asks, Ends}
-use Rattle.path_walk.specs.declared.goal.Goal.TheVariants.{Status, Text, Names, Entry, MoveFrom, MoveTo}
+use Rattle.path_walk.specs.declared.goal.Goal.TheVariants.{Status, Text, Names, Entry, Open, MoveFrom, MoveTo}
 use Rattle.path_walk.specs.declared.trail.Trail.{Trail}
 use Rattle.path_walk.specs.declared.trail.Stage.{Stage}
-use Rattle.path_walk.specs.declared.trail.Stage.TheVariants.{Start, Walking, LastOnNames, LastOnFiles}
+use Rattle.path_walk.specs.declared.trail.Stage.TheVariants.{Start, Walking, LastOnNames, LastOnFiles, Using, LastOnDescriptors, Releasing, OpeningFile}
 use Rattle.name_store.specs.declared.operation.Node.{Node}
 use Rattle.path_walk.specs.declared.trail.Onward.{Onward}
 use Rattle.path_walk.specs.declared.trail.Onward.TheVariants.{Ends as EndsThere, Goes}
-use Rattle.path_walk.specs.PathMeaning.{Way, Course, ends, goes, root_of, course_to_link}
+use Rattle.path_walk.specs.PathMeaning.{Way, Course, ends, goes, course_to_link}
 use Rattle.path_walk.specs.Programs.{Program, finished, asks}
 use Rattle.path_walk.specs.Walk.{node_in, course_on, program_on, walk}
-use Rattle.path_walk.specs.Calls.{Plan, parent_route, whole_route, program_of, status_plan, text_plan, list_plan, parent_plan, change_plan, move_plan, move_on, plan_after, unlinked_by, reply_to, text_fault}
+use Rattle.path_walk.specs.Plans.{Plan, fault_in, unless_told, parent_route, whole_route, program_of, reply_to}
+use Rattle.path_walk.specs.Calls.{status_plan, text_plan, list_plan, parent_plan, change_plan, move_plan, move_on, plan_after, unlinked_by, text_fault}
+use Rattle.path_walk.specs.DescriptorCalls.{number_plan, use_plan}
+use Rattle.path_walk.specs.OpenPlan.{open_end, open_route, opens_along}
+use Rattle.path_walk.specs.OpenStages.{stage_plan, text_route}
 use Rattle.path_walk.specs.Posix.{program}
 
 -- what a call does at the end of its walk
@@ -39,6 +44,7 @@ goal_plan Status end = status_plan end
 goal_plan Text end = text_plan end
 goal_plan (Names start) end = list_plan start end
 goal_plan (Entry change last slash) end = parent_plan last (change_plan change last slash) end
+goal_plan (Open walks request name) end = open_end (opens_along walks) request name end
 goal_plan (MoveFrom last slash new) end = parent_plan last (move_on last slash new) end
 goal_plan (MoveTo from last slash new_last) end = parent_plan new_last (move_plan from last slash new_last) end
 
@@ -56,35 +62,42 @@ way_of trail = record { rest = trail.rest; slash = trail.slash; links = trail.li
 abbrev pub way_up : Trail → Way
 way_up trail = record (way_of trail) { rest = Up ∷ trail.rest }
 
--- the start of a walk, from the root
-abbrev pub trail_from : List Part → Manner → Bool → Goal → Trail
-trail_from rest manner slash goal = record { rest = rest; manner = manner; slash = slash; names = path_names_max; links = symloop_max; spot = root_of 0; goal = goal }
+-- the start of a walk
+abbrev pub trail_from : Station → List Part → Manner → Bool → Goal → Trail
+trail_from from rest manner slash goal = record { rest = rest; manner = manner; slash = slash; names = from.names; links = from.links; spot = from.spot; goal = goal }
 
 abbrev pub with_one_name_less : Trail → Trail
 with_one_name_less trail = record trail { names = trail.names - 1 }
 
--- the path that a call walks first, and the other path of a move
-abbrev pub route_of : Call → Result Route Errno
-route_of (call.Mkdir path) = parent_route path
-route_of (call.Rmdir path) = parent_route path
-route_of (call.Unlink path) = parent_route path
-route_of (call.Symlink text path) = parent_route path
-route_of (call.Rename path new) = parent_route path
-route_of (call.Readlink path) = whole_route Stays path
-route_of (call.Stat path) = whole_route Follows path
-route_of (call.Lstat path) = whole_route Stays path
-route_of (call.List path start) = whole_route Follows path
+-- the path that a call walks first, unless it begins with a step
+abbrev pub route_of : Call → Option (Result Route Errno)
+route_of (call.Mkdir path) = Some (parent_route path)
+route_of (call.Rmdir path) = Some (parent_route path)
+route_of (call.Unlink path) = Some (parent_route path)
+route_of (call.Symlink text path) = Some (parent_route path)
+route_of (call.Rename path new) = Some (parent_route path)
+route_of (call.Readlink path) = Some (whole_route Stays path)
+route_of (call.Stat path) = Some (whole_route Follows path)
+route_of (call.Lstat path) = Some (whole_route Stays path)
+route_of (call.List path start) = Some (whole_route Follows path)
+route_of call = None
 
+-- the other path of a move
 abbrev pub new_route_of : Call → Option (Result Route Errno)
 new_route_of (call.Rename path new) = Some (parent_route new)
 new_route_of call = None
+
+-- the path that a call opens
+abbrev pub open_route_of : Call → Option (Result OpenRoute Errno)
+open_route_of (call.Open path flags) = Some (open_route path)
+open_route_of call = None
 
 -- the error of a call before any path of it
 abbrev pub fault_of : Call → Option Errno
 fault_of (call.Symlink text path) = text_fault text
 fault_of call = None
 
--- what a call does at the end of its first path
+-- what a call does at the end of its first path; one that walks none at first is not asked
 abbrev pub goal_of : Call → Option Part → Bool → Goal
 goal_of (call.Mkdir path) last slash = Entry change.Makedir last slash
 goal_of (call.Rmdir path) last slash = Entry change.Remdir last slash
@@ -92,9 +105,8 @@ goal_of (call.Unlink path) last slash = Entry change.Remfile last slash
 goal_of (call.Symlink text path) last slash = Entry (change.Addlink text) last slash
 goal_of (call.Rename path new) last slash = MoveFrom last slash (parent_route new)
 goal_of (call.Readlink path) last slash = Text
-goal_of (call.Stat path) last slash = Status
-goal_of (call.Lstat path) last slash = Status
 goal_of (call.List path start) last slash = Names start
+goal_of call last slash = Status
 
 -- how many walks follow that of a goal
 abbrev pub walks_after : Goal → ℕ
@@ -114,6 +126,10 @@ Expects (Start call) None = Unit {0}
 Expects (Walking trail) (Some answer) = Unit {0}
 Expects (LastOnNames backend) (Some answer) = Unit {0}
 Expects LastOnFiles (Some answer) = Unit {0}
+Expects (Using purpose) (Some answer) = Unit {0}
+Expects LastOnDescriptors (Some answer) = Unit {0}
+Expects (Releasing given) (Some answer) = Unit {0}
+Expects (OpeningFile stage) (Some answer) = Unit {0}
 Expects stage answer = ⊥
 
 -- what is left of the call at the answer that the machine waited for; nothing is expected when it is over
@@ -122,6 +138,10 @@ resumed (Start call) answer = program call
 resumed (Walking trail) (Some answer) = program_on (course_of trail (node_in answer)) (walk_of trail) (goal_program trail.goal)
 resumed (LastOnNames backend) (Some answer) = program_of (plan_after backend answer (unlinked_by answer))
 resumed LastOnFiles (Some answer) = finished (reply_to answer)
+resumed (Using purpose) (Some answer) = program_of (use_plan purpose answer)
+resumed LastOnDescriptors (Some answer) = program_of (number_plan answer)
+resumed (Releasing given) (Some answer) = finished (unless_told (fault_in answer) given)
+resumed (OpeningFile stage) (Some answer) = program_of (stage_plan stage answer)
 resumed stage answer = finished Done
 
 -- the machine tells what the program does next, and stands for what is left after any answer
@@ -140,6 +160,26 @@ abbrev pub Meets : Trail → Course → Onward → Trail → Type 0
 Meets old (ends end) (EndsThere given) new = (given ≡ end) × (new ≡ old)
 Meets old (goes w) Goes new = new ≡ with_way old w
 Meets old course onward new = ⊥
+
+abbrev pub IsOpeningFile : Stage → Type 0
+IsOpeningFile (OpeningFile stage) = Unit {0}
+IsOpeningFile stage = ⊥
+
+-- the path of the link to which an `open` is led
+abbrev pub link_route : Stage → StepAnswer → Option OpenRoute
+link_route (OpeningFile stage) answer = text_route stage answer
+link_route stage answer = None
+
+-- the call is not begun, and these are its paths that are read
+abbrev pub IsStart : Stage → Option (Result Route Errno) → Option (Result Route Errno) → Option (Result OpenRoute Errno) → Type 0
+IsStart (Start call) route new to_open = (route ≡ route_of call) × (new ≡ new_route_of call) × (to_open ≡ open_route_of call)
+IsStart stage route new to_open = ⊥
+
+-- the machine goes on without want of memory
+abbrev pub IsPlain : Stage → Type 0
+IsPlain (Walking trail) = ⊥
+IsPlain (OpeningFile stage) = ⊥
+IsPlain stage = Unit {0}
 
 abbrev pub IsWalking : Stage → Type 0
 IsWalking (Walking trail) = Unit {0}

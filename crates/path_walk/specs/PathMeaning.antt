@@ -2,6 +2,7 @@
 -- the components, with links followed and mounts entered. That only so many names may be taken and so many links be
 -- followed is this project's own.
 use Rattle.std.specs.Prelude.{ℕ, ◌==◌, ◌||◌, zero, suc, if◌then◌else◌, Bool, true, false, List, [], ◌∷◌, ◌++◌, Option, None, Some, Result, Ok, Err}
+use Rattle.wf_core.specs.Limits.{path_names_max, symloop_max}
 use Rattle.wf_core.specs.Names.{is_slash}
 use Rattle.wf_core.specs.declared.errno.Errno.{Errno}
 use Rattle.wf_core.specs.declared.errno.Errno.TheVariants.{Enoent, Enotdir, Eloop, Enametoolong}
@@ -13,6 +14,7 @@ use Rattle.path_walk.specs.declared.part.Part.TheVariants.{Here, Up, Down, TooLo
 use Rattle.path_walk.specs.declared.route.Manner.{Manner}
 use Rattle.path_walk.specs.declared.route.Manner.TheVariants.{OnWay, Stays}
 use Rattle.path_walk.specs.declared.route.Spot.{Spot}
+use Rattle.path_walk.specs.declared.route.Station.{Station}
 use Rattle.path_walk.specs.declared.route.End.{End}
 use Rattle.path_walk.specs.declared.route.End.TheVariants.{Directory, File, LinkText}
 use Rattle.path_walk.specs.Store.{Store, names_at}
@@ -21,6 +23,14 @@ use Rattle.path_walk.specs.Paths.{parts_of, slash_of}
 -- the root directory of a backend
 abbrev pub root_of : ℕ → Spot
 root_of backend = record { backend = backend; directory = 0 }
+
+-- a directory, with so many names and so many links that a path may still take
+abbrev pub station : ℕ → ℕ → Spot → Station
+station names links spot = record { names = names; links = links; spot = spot }
+
+-- where every path starts: in the root
+abbrev pub path_start : Station
+path_start = station path_names_max symloop_max (root_of 0)
 
 -- a directory of the same backend
 abbrev pub spot_beside : Spot → ℕ → Spot
@@ -110,7 +120,7 @@ parent_from store here =
 
 -- where the parts lead from a directory, with so many names that may still be taken and so many links
 abbrev pub resolve : Store → ℕ → List Part → Manner → Bool → ℕ → Spot → Result End Errno
-resolve store names [] manner slash links here = Ok (Directory names here)
+resolve store names [] manner slash links here = Ok (Directory (station names links here))
 resolve store names (Here ∷ rest) manner slash links here = resolve store names rest manner slash links here
 resolve store names (TooLong ∷ rest) manner slash links here = Err Enametoolong
 resolve store zero (Up ∷ rest) manner slash links here = Err Enametoolong

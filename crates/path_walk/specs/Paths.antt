@@ -31,6 +31,15 @@ last_of parts = slice_get parts (length parts - 1)
 abbrev pub front_of : List Part → List Part
 front_of parts = take (length parts - 1) parts
 
+-- a last component that is a name, and what stands before it; where it is `.` or `..` or there is none, that is the whole
+abbrev pub name_in : Option Part → Option (List ℕ)
+name_in (Some (Down name)) = Some name
+name_in last = None
+
+abbrev pub parts_before : Option Part → List Part → List Part
+parts_before (Some (Down name)) parts = front_of parts
+parts_before last parts = parts
+
 -- the error of a path that is not walked at all: it is empty (XBD 4.13), or with the byte 0
 -- at its end it has more bytes than a path may have
 abbrev pub path_fault : List ℕ → Option Errno

@@ -5,7 +5,8 @@ use Rattle.path_walk.specs.declared.call.Call.{Call}
 use Rattle.path_walk.specs.declared.call.Reply.{Reply}
 use Rattle.path_walk.specs.Store.{Store}
 use Rattle.path_walk.specs.Programs.{Program, CallOutcome, Step, Takes}
-use Rattle.path_walk.specs.Calls.{plan, program_of, at_once}
+use Rattle.path_walk.specs.Plans.{program_of, at_once}
+use Rattle.path_walk.specs.Calls.{plan}
 
 -- one call at once
 abbrev pub posix : Store → Call → CallOutcome

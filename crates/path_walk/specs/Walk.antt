@@ -17,7 +17,7 @@ use Rattle.path_walk.specs.declared.step.StoreOp.TheVariants.{Names as NamesOp}
 use Rattle.path_walk.specs.declared.step.StoreAnswer.TheVariants.{Names as NamesAnswer}
 use Rattle.path_walk.specs.declared.step.StepAnswer.{StepAnswer}
 use Rattle.path_walk.specs.declared.step.StepAnswer.TheVariants.{Answered, Cancelled, Closed}
-use Rattle.path_walk.specs.PathMeaning.{Way, Course, ends, goes, course, root_of}
+use Rattle.path_walk.specs.PathMeaning.{Way, Course, ends, goes, course, station, root_of}
 use Rattle.path_walk.specs.Programs.{Program, asks}
 
 -- what stands under a name, by the answer; a directory that is gone is ENOENT
@@ -38,7 +38,7 @@ program_on (goes w) next over = next w
 
 -- the walk along the parts from a directory, with so many names that may still be taken and so many links
 abbrev pub walk : ℕ → List Part → Manner → Bool → ℕ → Spot → (Result End Errno → Program) → Program
-walk names [] manner slash links here over = over (Ok (Directory names here))
+walk names [] manner slash links here over = over (Ok (Directory (station names links here)))
 walk names (Here ∷ rest) manner slash links here over = walk names rest manner slash links here over
 walk names (TooLong ∷ rest) manner slash links here over = over (Err Enametoolong)
 walk zero (Up ∷ rest) manner slash links here over = over (Err Enametoolong)

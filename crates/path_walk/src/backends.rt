@@ -5,6 +5,8 @@ ghost use Rattle.path_walk.specs.Backing.{IsCellOf, IsAnswerOf};
 ghost use Rattle.path_walk.specs.Programs.{Step, step_of, Begins};
 ghost use Rattle.path_walk.specs.Posix.{Walk, program};
 ghost use Rattle.path_walk.specs.Alone.{StepsAlone, CallsAlone};
+ghost use Rattle.path_walk.specs.declared.call.Call.{Call};
+ghost use Rattle.path_walk.specs.declared.trail.Stage.TheVariants.{Start};
 
 use crate::call::{Call, Need, Reply};
 use crate::machine::CallMachine;
@@ -56,6 +58,20 @@ pub fn perform<B: Backends>(
     ensures same { B.backends backends.new ≡ B.backends backends.old }
 {
     let mut machine = CallMachine::new(alloc, call);
+    take_steps(&mut machine, backends)
+}
+
+/// Takes the steps of a call that is not begun.
+fn take_steps<B: Backends>(machine: &mut CallMachine, backends: &mut B) -> Result<Reply, AllocError>
+    requires { (call : Call) × (machine.old ≡ Start call) }
+    ensures walk { (call : Call) → machine.old ≡ Start call
+        → (steps : List Step) × B.ran backends.old steps backends.new
+        × (length steps ≤ call_steps_max)
+        × MatchResult result (λ reply. Walk call steps reply) (λ _. Begins (program call) steps) }
+    ensures alone { (call : Call) → machine.old ≡ Start call → IfOk result
+        (λ reply. CallsAlone (B.store backends.old) call reply (B.store backends.new)) }
+    ensures same { B.backends backends.new ≡ B.backends backends.old }
+{
     let mut answer = None;
     for _ in 0..CALL_STEPS_MAX {
         match machine.next(answer)? {

@@ -1,6 +1,8 @@
+use crate::open_request::OpenFlags;
 use crate::step::{CellId, StoreOp};
+use file_store::Whence;
 use name_store::NameList;
-use wf_core::{Errno, PathText};
+use wf_core::{Errno, PathText, Text};
 
 /// A file call, after POSIX.1-2017, XSH; `List` is after readdir().
 #[derive(Debug, Drop)]
@@ -23,10 +25,56 @@ pub enum Call {
     Lstat(PathText),
     /// Asks for at most `LIST_MAX` names of a directory, from that position on, in the order of their bytes.
     List(PathText, u32),
+    /// Opens a path under the lowest number that is free.
+    Open(PathText, OpenFlags),
+    /// Frees a number.
+    Close(u32),
+    /// Has the lowest number that is free name what that number names.
+    Dup(u32),
+    /// Has `target` name what `number` names.
+    Dup2 {
+        number: u32,
+        target: u32,
+    },
+    /// Reads at most `count` bytes, and `READ_MAX`, from the offset of the number's description on.
+    Read {
+        number: u32,
+        count: u32,
+    },
+    /// Reads at most `count` bytes, and `READ_MAX`, from that offset on.
+    Pread {
+        number: u32,
+        count: u32,
+        offset: i64,
+    },
+    /// Writes bytes at the offset of the number's description, or at the file's end where it is open to append.
+    Write {
+        number: u32,
+        bytes: Text,
+    },
+    /// Writes bytes at that offset.
+    Pwrite {
+        number: u32,
+        bytes: Text,
+        offset: i64,
+    },
+    /// Moves the offset of the number's description.
+    Seek {
+        number: u32,
+        offset: i64,
+        whence: Whence,
+    },
+    /// Has the number's file be of that size.
+    Ftruncate {
+        number: u32,
+        size: i64,
+    },
+    /// Asks what a number names.
+    Fstat(u32),
 }
 
 /// What a file call replies.
-#[derive(Debug, PartialEq, Eq, Drop)]
+#[derive(Debug, Drop)]
 pub enum Reply {
     /// It was done.
     Done,
@@ -40,6 +88,14 @@ pub enum Reply {
     Text(PathText),
     /// The names.
     Names(NameList),
+    /// The descriptor's number.
+    Fd(u32),
+    /// The bytes that were read.
+    Bytes(Text),
+    /// How many bytes were written.
+    Count(u64),
+    /// The new offset.
+    At(u64),
     /// The error of the call, which has changed nothing.
     Fault(Errno),
 }

@@ -1,21 +1,24 @@
-ghost use Rattle.std.specs.Prelude.{◌≡◌, ◌==◌, Ok};
-ghost use Rattle.path_walk.specs.Calls.{cell_of_file, move_on, change_plan, faults_of, last_fault, last_faults, last_step, list_plan, move_faults, move_plan, move_step, name_of, op_of, parent_of, program_of, slash_fault, status_plan, text_fault, text_plan};
+ghost use Rattle.std.specs.Prelude.{◌≡◌, ◌==◌, Ok, Err};
+ghost use Rattle.path_walk.specs.Plans.{cell_of_id, program_of};
+ghost use Rattle.path_walk.specs.Calls.{move_on, change_plan, faults_of, last_fault, last_faults, last_step, list_plan, move_faults, move_plan, move_step, name_of, op_of, parent_of, slash_fault, status_plan, text_fault, text_plan};
 ghost use Rattle.path_walk.specs.declared.call.Need.{Need};
 ghost use Rattle.path_walk.specs.declared.trail.Stage.{Stage};
 ghost use Rattle.path_walk.specs.Machine.{Shows, Reaches, goal_program};
 
 use crate::call::Reply;
-use crate::part::Part;
-use crate::route::{End, Route, Spot};
+use crate::open_request::OpenRequest;
+use crate::open_stage::end_open;
+use crate::part::{LastName, Part};
+use crate::route::{End, Route, Spot, Station};
 use crate::step::{CellId, StoreOp};
 use crate::trail::{Stage, Trail, Turn, fault, over, step};
 use file_store::FileOp;
 use name_store::NameOp;
-use wf_core::{BackendId, DirId, Errno, FileId, GROUP_COUNT, Name, PathText, SYMLINK_MAX};
+use wf_core::{BackendId, DirId, Errno, FileId, Name, PathText, SYMLINK_MAX};
 
 /// A change of one entry.
-#[derive(Debug, Drop)]
-pub(crate) enum Change {
+#[derive(Drop)]
+pub enum Change {
     Makedir,
     Remdir,
     Remfile,
@@ -24,18 +27,18 @@ pub(crate) enum Change {
 }
 
 /// The errors for a last component that is no name.
-#[derive(Clone, Copy, Debug, PartialEq, Eq)]
-pub(crate) struct LastFaults {
+#[derive(Clone, Copy)]
+pub struct LastFaults {
     /// It is `.`.
-    pub(crate) dot: Errno,
+    pub dot: Errno,
     /// It is `..`.
-    pub(crate) dot_dot: Errno,
+    pub dot_dot: Errno,
     /// There is none: the path is the root.
-    pub(crate) root: Errno,
+    pub root: Errno,
 }
 
 /// What a call does where its walk has led to.
-#[derive(Debug, Drop)]
+#[derive(Drop)]
 pub(crate) enum Goal {
     /// It asks what is there.
     Status,
@@ -47,6 +50,8 @@ pub(crate) enum Goal {
     Entry(Change, Option<Part>, bool),
     /// It goes on along the second path of a move.
     MoveFrom(Option<Part>, bool, Result<Route, Errno>),
+    /// It opens what stands there under a name, with so many walks that there may still be.
+    Open(u32, OpenRequest, Option<LastName>),
     /// It moves the entry of the first directory and component. The flag says that a slash ends either path.
     MoveTo(Spot, Option<Part>, bool, Option<Part>),
 }
@@ -171,11 +176,11 @@ fn last_step(backend: u32, op: NameOp) -> Turn
 /// The last step of a call on a file.
 pub(crate) fn step_on_file(backend: u32, file: u64, op: FileOp) -> Turn
     ensures { (result.stage ≡ Stage.LastOnFiles)
-        × (result.need ≡ Need.Step (cell_of_file backend file) (StoreOp.Files op)) }
+        × (result.need ≡ Need.Step (cell_of_id backend file) (StoreOp.Files op)) }
 {
     step(
         Stage::LastOnFiles,
-        CellId::Files(BackendId::new(backend), (file % GROUP_COUNT) as u32),
+        CellId::of_id(backend, file),
         StoreOp::Files(op),
     )
 }
@@ -215,7 +220,7 @@ fn status(end: End) -> Turn
     ensures { Shows result.need (program_of (status_plan (Ok end))) result.stage }
 {
     match end {
-        End::Directory(_, _) => over(Reply::Dir),
+        End::Directory(_) => over(Reply::Dir),
         End::File(backend, file) => step_on_file(backend, file, FileOp::Sizeof(FileId::new(file))),
         End::LinkText(text) => over(Reply::Link(text.as_bytes().len() as u64)),
     }
@@ -226,7 +231,7 @@ fn text(end: End) -> Turn
 {
     match end {
         End::LinkText(text) => over(Reply::Text(text)),
-        End::Directory(_, _) | End::File(_, _) => fault(Errno::Einval),
+        End::Directory(_) | End::File(_, _) => fault(Errno::Einval),
     }
 }
 
@@ -234,10 +239,10 @@ fn names(start: u32, end: End) -> Turn
     ensures { Shows result.need (program_of (list_plan start (Ok end))) result.stage }
 {
     match end {
-        End::Directory(_, spot) => last_step(
-            spot.backend,
+        End::Directory(station) => last_step(
+            station.spot.backend,
             NameOp::List {
-                directory: spot.dir(),
+                directory: station.spot.dir(),
                 start,
             },
         ),
@@ -250,9 +255,9 @@ fn parent(last: &Option<Part>, end: End) -> Result<Spot, Errno>
     ensures { result ≡ parent_of last.now end }
 {
     match end {
-        End::Directory(names, spot) => match last_fault(last, names) {
+        End::Directory(station) => match last_fault(last, station.names) {
             Some(errno) => Err(errno),
-            None => Ok(spot),
+            None => Ok(station.spot),
         },
         End::File(_, _) | End::LinkText(_) => Err(Errno::Enotdir),
     }
@@ -266,13 +271,23 @@ pub(crate) enum Reached {
 }
 
 impl Goal {
+    /// What the call does where its walk has failed.
+    fn fail(self, errno: Errno) -> Turn
+        ensures { Shows result.need (goal_program self (Err errno)) result.stage }
+    {
+        match self {
+            Goal::Open(walks, request, name) => end_open(walks, request, name, Err(errno)),
+            _ => fault(errno),
+        }
+    }
+
     /// What the call does at the end of its walk.
     pub(crate) fn reach(self, end: Result<End, Errno>) -> Reached
         ensures { Reaches self (goal_program self end) result }
     {
         let end = match end {
             Ok(end) => end,
-            Err(errno) => return Reached::Turn(fault(errno)),
+            Err(errno) => return Reached::Turn(self.fail(errno)),
         };
         match self {
             Goal::Status => Reached::Turn(status(end)),
@@ -287,6 +302,9 @@ impl Goal {
                     Ok(to) => move_to(from, last, slash, new_last, to),
                     Err(errno) => fault(errno),
                 })
+            }
+            Goal::Open(walks, request, name) => {
+                Reached::Turn(end_open(walks, request, name, Ok(end)))
             }
             Goal::MoveFrom(last, slash, new) => match parent(&last, end) {
                 Ok(from) => move_from(last, slash, new, from),
@@ -304,7 +322,13 @@ fn move_from(last: Option<Part>, slash: bool, new: Result<Route, Errno>, from: S
         Err(errno) => Reached::Turn(fault(errno)),
         Ok(route) => {
             let goal = Goal::MoveTo(from, last, slash | route.slash, route.last);
-            Reached::Trail(Trail::new(route.parts, route.manner, route.slash, goal))
+            Reached::Trail(Trail::new(
+                Station::start(),
+                route.parts,
+                route.manner,
+                route.slash,
+                goal,
+            ))
         }
     }
 }

@@ -3,21 +3,25 @@
 
 pub use backends::{Backends, perform};
 pub use call::{Call, Need, Reply};
-pub use laws::{
-    calls_end, calls_stay_among, components_lead_on, errors_change_nothing, links_lead,
-    list_names_each_once, mkdir_makes, mkdir_then_stat, rename_moves, rmdir_removes,
-    rmdir_then_lstat, slashes_ask_for_directories, steps_are_the_call, symlink_makes,
-    symlink_then_readlink, unlink_removes, unlink_then_lstat,
-};
+pub use descriptor_call::FileUse;
+pub use goal::{Change, LastFaults};
+pub use laws::{calls_end, calls_stay_among, steps_are_the_call};
 pub use machine::CallMachine;
+pub use open_request::{OpenFlags, OpenRequest, OpenRoute};
+pub use part::{LastName, Part, Parts};
+pub use route::{End, Manner, Route, Spot, Station};
 pub use step::{CellId, StepAnswer, StoreAnswer, StoreOp};
 
 mod backends;
 mod call;
+mod descriptor_call;
 mod goal;
 mod laws;
 mod machine;
+mod open_request;
+mod open_stage;
 mod part;
+mod reply;
 mod route;
 mod step;
 mod trail;

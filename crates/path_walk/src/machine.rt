@@ -1,19 +1,23 @@
 ghost use Rattle.std.specs.Prelude.{◌≡◌, IfOk, OnErr, None, Some};
 ghost use Rattle.path_walk.specs.Posix.{program};
-ghost use Rattle.path_walk.specs.Walk.{node_in};
-ghost use Rattle.path_walk.specs.Calls.{plan_after, program_of, reply_to, reply_to_files, reply_to_names, unlinked_by};
-ghost use Rattle.path_walk.specs.Machine.{Expects, IsWalking, Shows, fault_of, goal_of, left_at, new_route_of, resumed, route_of};
+ghost use Rattle.path_walk.specs.Plans.{program_of};
+ghost use Rattle.path_walk.specs.Calls.{plan_after, unlinked_by};
+ghost use Rattle.path_walk.specs.Machine.{Expects, IsOpeningFile, IsPlain, IsStart, IsWalking, Shows, fault_of, goal_of, left_at, link_route, new_route_of, open_route_of, resumed, route_of};
 ghost use Rattle.path_walk.specs.declared.trail.Stage.{Stage};
 ghost use Rattle.path_walk.specs.declared.trail.Stage.TheVariants.{Start};
 
-use crate::call::{Call, Need, Reply};
+use crate::call::{Call, Need};
+use crate::descriptor_call::{FileUse, after_numbers, after_release, change_numbers};
 use crate::goal::{Change, Goal, step_on_file, text_fault};
+use crate::open_request::OpenRoute;
+use crate::open_stage::open;
 use crate::part::Part;
-use crate::route::{End, Manner, Route};
+use crate::reply::reply_to;
+use crate::route::{End, Manner, Route, Station};
 use crate::step::{StepAnswer, StoreAnswer};
-use crate::trail::{Advance, Onward, Stage, Trail, Turn, fault, over};
-use file_store::{FileAnswer, FileOp};
-use name_store::{NameAnswer, Node};
+use crate::trail::{Advance, Onward, Stage, Trail, Turn, fault, node_in, over};
+use file_store::{FdOp, FileOp};
+use name_store::NameAnswer;
 use std::alloc::{AllocError, Global};
 use std::marker::Model;
 use std::mem;
@@ -66,10 +70,9 @@ impl CallMachine {
         };
         let route = route_of(self.alloc, call)?;
         let new = new_route_of(self.alloc, call)?;
-        match mem::replace(&mut self.stage, Stage::Over) {
-            Stage::Start(call) => Ok(self.take(begin(call, route, new))),
-            _ => unreachable!(),
-        }
+        let to_open = open_route_of(self.alloc, call)?;
+        let stage = mem::replace(&mut self.stage, Stage::Over);
+        Ok(self.take(begin(stage, route, new, to_open)))
     }
 
     fn take(&mut self, turn: Turn) -> Need
@@ -86,11 +89,39 @@ impl CallMachine {
     {
         match &self.stage {
             Stage::Walking(_) => self.walk_on(answer),
-            Stage::LastOnNames(backend) => {
-                let turn = after_names(*backend, answer);
-                Ok(self.take(turn))
-            }
-            Stage::LastOnFiles => Ok(self.take(over(reply_to(answer)))),
+            Stage::OpeningFile(_) => self.open_on(answer),
+            _ => Ok(self.go_on(answer)),
+        }
+    }
+
+    /// Goes on without want of memory.
+    fn go_on(&mut self, answer: StepAnswer) -> Need
+        requires waits { Expects self.old (Some answer) }
+        requires plain { IsPlain self.old }
+        ensures { Shows result (resumed self.old (Some answer)) self.new }
+    {
+        let stage = mem::replace(&mut self.stage, Stage::Over);
+        self.take(after_step(stage, answer))
+    }
+
+    /// Goes on with an `open`. A link's text is read while the stage still stands.
+    fn open_on(&mut self, answer: StepAnswer) -> Result<Need, AllocError>
+        requires { IsOpeningFile self.old }
+        ensures ok { IfOk result (λ need. Shows need (resumed self.old (Some answer)) self.new) }
+        ensures err { OnErr result (self.new ≡ self.old) }
+    {
+        let route = self.link_route(&answer)?;
+        let stage = mem::replace(&mut self.stage, Stage::Over);
+        Ok(self.take(after_open_step(stage, answer, route)))
+    }
+
+    /// The path of the link to which an `open` is led.
+    fn link_route(&self, answer: &StepAnswer) -> Result<Option<OpenRoute>, AllocError>
+        requires { IsOpeningFile self.now }
+        ensures { IfOk result (λ route. route ≡ link_route self.now answer.now) }
+    {
+        match &self.stage {
+            Stage::OpeningFile(stage) => stage.route(self.alloc, answer),
             _ => unreachable!(),
         }
     }
@@ -118,15 +149,52 @@ impl CallMachine {
         requires { IsWalking self.old }
         ensures { Shows result (left_at self.old end) self.new }
     {
-        match mem::replace(&mut self.stage, Stage::Over) {
-            Stage::Walking(trail) => self.take(trail.finish(end)),
-            _ => unreachable!(),
-        }
+        let stage = mem::replace(&mut self.stage, Stage::Over);
+        self.take(after_walk(stage, end))
     }
 }
 
-/// The path that a call walks first.
-fn route_of(alloc: Global, call: &Call) -> Result<Result<Route, Errno>, AllocError>
+/// What follows the answer to a step that is no walk's and no `open`'s.
+fn after_step(stage: Stage, answer: StepAnswer) -> Turn
+    requires waits { Expects stage (Some answer) }
+    requires plain { IsPlain stage }
+    ensures { Shows result.need (resumed stage (Some answer)) result.stage }
+{
+    match stage {
+        Stage::LastOnNames(backend) => after_names(backend, answer),
+        Stage::LastOnFiles => over(reply_to(answer)),
+        Stage::Using(purpose) => purpose.turn(answer),
+        Stage::LastOnDescriptors => after_numbers(answer),
+        Stage::Releasing(reply) => after_release(reply, answer),
+        _ => unreachable!(),
+    }
+}
+
+/// What follows the answer to a step of an `open`.
+fn after_open_step(stage: Stage, answer: StepAnswer, route: Option<OpenRoute>) -> Turn
+    requires opening { IsOpeningFile stage }
+    requires route { route ≡ link_route stage answer }
+    ensures { Shows result.need (resumed stage (Some answer)) result.stage }
+{
+    match stage {
+        Stage::OpeningFile(stage) => stage.turn(answer, route),
+        _ => unreachable!(),
+    }
+}
+
+/// What follows the end of a walk.
+fn after_walk(stage: Stage, end: Result<End, Errno>) -> Turn
+    requires { IsWalking stage }
+    ensures { Shows result.need (left_at stage end) result.stage }
+{
+    match stage {
+        Stage::Walking(trail) => trail.finish(end),
+        _ => unreachable!(),
+    }
+}
+
+/// The path that a call walks first, unless it begins with a step.
+fn route_of(alloc: Global, call: &Call) -> Result<Option<Result<Route, Errno>>, AllocError>
     ensures { IfOk result (λ route. route ≡ route_of call.now) }
 {
     match call {
@@ -134,9 +202,14 @@ fn route_of(alloc: Global, call: &Call) -> Result<Result<Route, Errno>, AllocErr
         | Call::Rmdir(path)
         | Call::Unlink(path)
         | Call::Symlink(_, path)
-        | Call::Rename(path, _) => Route::parent(alloc, path),
-        Call::Readlink(path) | Call::Lstat(path) => Route::whole(alloc, Manner::Stays, path),
-        Call::Stat(path) | Call::List(path, _) => Route::whole(alloc, Manner::Follows, path),
+        | Call::Rename(path, _) => Ok(Some(Route::parent(alloc, path)?)),
+        Call::Readlink(path) | Call::Lstat(path) => {
+            Ok(Some(Route::whole(alloc, Manner::Stays, path)?))
+        }
+        Call::Stat(path) | Call::List(path, _) => {
+            Ok(Some(Route::whole(alloc, Manner::Follows, path)?))
+        }
+        _ => Ok(None),
     }
 }
 
@@ -146,6 +219,16 @@ fn new_route_of(alloc: Global, call: &Call) -> Result<Option<Result<Route, Errno
 {
     match call {
         Call::Rename(_, new) => Ok(Some(Route::parent(alloc, new)?)),
+        _ => Ok(None),
+    }
+}
+
+/// The path that a call opens.
+fn open_route_of(alloc: Global, call: &Call) -> Result<Option<Result<OpenRoute, Errno>>, AllocError>
+    ensures { IfOk result (λ route. route ≡ open_route_of call.now) }
+{
+    match call {
+        Call::Open(path, _) => Ok(Some(OpenRoute::of(alloc, path)?)),
         _ => Ok(None),
     }
 }
@@ -175,14 +258,88 @@ fn goal_of(call: Call, last: Option<Part>, slash: bool, new: Option<Result<Route
             None => unreachable!(),
         },
         Call::Readlink(_) => Goal::Text,
-        Call::Stat(_) | Call::Lstat(_) => Goal::Status,
         Call::List(_, start) => Goal::Names(start),
+        _ => Goal::Status,
+    }
+}
+
+/// Begins the call of a stage, with the paths of it that are read.
+fn begin(
+    stage: Stage,
+    route: Option<Result<Route, Errno>>,
+    new: Option<Result<Route, Errno>>,
+    to_open: Option<Result<OpenRoute, Errno>>,
+) -> Turn
+    requires { IsStart stage route new to_open }
+    ensures { Shows result.need (resumed stage None) result.stage }
+{
+    match stage {
+        Stage::Start(call) => match route {
+            Some(route) => begin_walk(call, route, new),
+            None => begin_step(call, to_open),
+        },
+        _ => unreachable!(),
+    }
+}
+
+/// Begins a call with its first step.
+fn begin_step(call: Call, to_open: Option<Result<OpenRoute, Errno>>) -> Turn
+    requires first { None ≡ route_of call }
+    requires open { to_open ≡ open_route_of call }
+    ensures { Shows result.need (program call) result.stage }
+{
+    match to_open {
+        Some(route) => begin_open(call, route),
+        None => begin_on_number(call),
+    }
+}
+
+fn begin_open(call: Call, route: Result<OpenRoute, Errno>) -> Turn
+    requires { Some route ≡ open_route_of call }
+    ensures { Shows result.need (program call) result.stage }
+{
+    match call {
+        Call::Open(_, flags) => open(flags, route),
+        _ => unreachable!(),
+    }
+}
+
+/// Begins a call on what a number names.
+fn begin_on_number(call: Call) -> Turn
+    requires first { None ≡ route_of call }
+    requires open { None ≡ open_route_of call }
+    ensures { Shows result.need (program call) result.stage }
+{
+    match call {
+        Call::Close(number) => change_numbers(FdOp::Take(number)),
+        Call::Dup(number) => change_numbers(FdOp::Copy(number)),
+        Call::Dup2 { number, target } => change_numbers(FdOp::Copyto { number, target }),
+        Call::Read { number, count } => FileUse::Read(count).begin(number),
+        Call::Pread {
+            number,
+            count,
+            offset,
+        } => FileUse::Readat(count, offset).begin(number),
+        Call::Write { number, bytes } => FileUse::Write(bytes).begin(number),
+        Call::Pwrite {
+            number,
+            bytes,
+            offset,
+        } => FileUse::Writeat(bytes, offset).begin(number),
+        Call::Seek {
+            number,
+            offset,
+            whence,
+        } => FileUse::Seek(offset, whence).begin(number),
+        Call::Ftruncate { number, size } => FileUse::Cut(size).begin(number),
+        Call::Fstat(number) => FileUse::Size.begin(number),
+        _ => unreachable!(),
     }
 }
 
 /// Begins a call along its routes.
-fn begin(call: Call, route: Result<Route, Errno>, new: Option<Result<Route, Errno>>) -> Turn
-    requires first { route ≡ route_of call }
+fn begin_walk(call: Call, route: Result<Route, Errno>, new: Option<Result<Route, Errno>>) -> Turn
+    requires first { Some route ≡ route_of call }
     requires other { new ≡ new_route_of call }
     ensures { Shows result.need (program call) result.stage }
 {
@@ -198,20 +355,14 @@ fn begin(call: Call, route: Result<Route, Errno>, new: Option<Result<Route, Errn
                 manner,
                 slash,
             },
-        ) => Trail::new(parts, manner, slash, goal_of(call, last, slash, new)).proceed(),
-    }
-}
-
-/// What stands under a name, by the answer to a look-up or to a question for the parent.
-fn node_in(answer: StepAnswer) -> Result<Option<Node>, Errno>
-    ensures { result ≡ node_in answer }
-{
-    match answer {
-        StepAnswer::Answered(StoreAnswer::Names(NameAnswer::Found(node))) => Ok(Some(node)),
-        StepAnswer::Answered(StoreAnswer::Names(NameAnswer::Absent)) => Ok(None),
-        StepAnswer::Answered(_) => Err(Errno::Enoent),
-        StepAnswer::Cancelled => Err(Errno::Ecanceled),
-        StepAnswer::Closed => Err(Errno::Enxio),
+        ) => Trail::new(
+            Station::start(),
+            parts,
+            manner,
+            slash,
+            goal_of(call, last, slash, new),
+        )
+        .proceed(),
     }
 }
 
@@ -235,39 +386,5 @@ fn after_names(backend: u32, answer: StepAnswer) -> Turn
     match unlinked_by(&answer) {
         Some(file) => step_on_file(backend, file.number(), FileOp::Unlinked(file)),
         None => over(reply_to(answer)),
-    }
-}
-
-fn reply_to_names(answer: NameAnswer) -> Reply
-    ensures { result ≡ reply_to_names answer }
-{
-    match answer {
-        NameAnswer::Names(names) => Reply::Names(names),
-        NameAnswer::Fault(errno) => Reply::Fault(errno),
-        NameAnswer::Gone => Reply::Fault(Errno::Enoent),
-        _ => Reply::Done,
-    }
-}
-
-fn reply_to_files(answer: FileAnswer) -> Reply
-    ensures { result ≡ reply_to_files answer }
-{
-    match answer {
-        FileAnswer::Size(size) => Reply::File(size),
-        FileAnswer::Fault(errno) => Reply::Fault(errno),
-        FileAnswer::Gone => Reply::Fault(Errno::Enoent),
-        _ => Reply::Done,
-    }
-}
-
-/// What a call replies to the answer to its last step.
-fn reply_to(answer: StepAnswer) -> Reply
-    ensures { result ≡ reply_to answer }
-{
-    match answer {
-        StepAnswer::Answered(StoreAnswer::Names(answer)) => reply_to_names(answer),
-        StepAnswer::Answered(StoreAnswer::Files(answer)) => reply_to_files(answer),
-        StepAnswer::Cancelled => Reply::Fault(Errno::Ecanceled),
-        StepAnswer::Closed => Reply::Fault(Errno::Enxio),
     }
 }

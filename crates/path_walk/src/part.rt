@@ -2,7 +2,7 @@ ghost use Rattle.std.specs.Prelude.{◌≡◌, ◌≢◌, ◌==◌, [], ◌∷�
 ghost use Rattle.std.specs.List.{list_all};
 ghost use Rattle.wf_core.specs.Names.{is_name_byte};
 ghost use Rattle.path_walk.specs.declared.part.Part.{Part};
-ghost use Rattle.path_walk.specs.Paths.{components, part_of, parts_of, last_of, front_of};
+ghost use Rattle.path_walk.specs.Paths.{components, name_in, parts_before, part_of, parts_of, last_of, front_of};
 
 use std::alloc::{AllocError, Global};
 use std::collections::VecDeque;
@@ -10,8 +10,8 @@ use std::marker::Model;
 use wf_core::{Name, NameRefusal, PathText};
 
 /// What a component of a path asks for.
-#[derive(Debug, Drop)]
-pub(crate) enum Part {
+#[derive(Drop)]
+pub enum Part {
     /// `.`, to stay.
     Here,
     /// `..`, to go up.
@@ -44,8 +44,8 @@ impl Part {
 }
 
 /// The parts of a path that are still to come, seen as their list.
-#[derive(Debug, Drop)]
-pub(crate) struct Parts {
+#[derive(Drop)]
+pub struct Parts {
     parts: VecDeque<Part>,
 }
 
@@ -53,6 +53,31 @@ impl Model for Parts {
     ghost Value = { List Part };
 
     ghost view = { λ p. p.parts.items };
+}
+
+/// A last name and a copy, since it is to be looked up and then, where nothing is, to be added. Seen as its bytes.
+#[derive(Drop)]
+pub struct LastName {
+    name: Name,
+    copy: Name,
+}
+
+impl Model for LastName {
+    ghost use Rattle.std.specs.Prelude.{◌≡◌, ℕ, List};
+
+    ghost Value = { List ℕ };
+
+    ghost view = { λ n. n.name };
+
+    ghost invariant = { λ n. n.copy ≡ n.name };
+}
+
+impl LastName {
+    pub(crate) fn split(self) -> (Name, Name)
+        ensures { (result.0 ≡ self) × (result.1 ≡ self) }
+    {
+        (self.name, self.copy)
+    }
 }
 
 impl Parts {
@@ -88,6 +113,21 @@ impl Parts {
         front.parts.append(&mut self.parts)?;
         self.parts = front.parts;
         Ok(())
+    }
+
+    /// Takes a last part that is a name.
+    pub(crate) fn take_last_name(&mut self) -> Result<Option<LastName>, AllocError>
+        ensures name { IfOk result (λ name. name ≡ name_in (last_of self.old)) }
+        ensures front { OnOk result (self.new ≡ parts_before (last_of self.old) self.old) }
+    {
+        let Some(Part::Down(name)) = self.parts.back() else {
+            return Ok(None);
+        };
+        let copy = name.clone()?;
+        match self.parts.pop_back() {
+            Some(Part::Down(name)) => Ok(Some(LastName { name, copy })),
+            _ => unreachable!(),
+        }
     }
 
     pub(crate) fn take_last(&mut self) -> Option<Part>

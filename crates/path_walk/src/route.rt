@@ -1,16 +1,16 @@
 ghost use Rattle.std.specs.Prelude.{◌≡◌, ◌==◌, length, not, IfOk};
 ghost use Rattle.path_walk.specs.Paths.{components, ends_in_slash, path_fault, slash_of};
-ghost use Rattle.path_walk.specs.PathMeaning.{root_of, start_of, is_followed};
-ghost use Rattle.path_walk.specs.Calls.{parent_route, whole_route};
+ghost use Rattle.path_walk.specs.PathMeaning.{root_of, spot_beside, start_of, is_followed, path_start};
+ghost use Rattle.path_walk.specs.Plans.{parent_route, whole_route};
 
 use crate::part::{Part, Parts};
 use crate::step::CellId;
 use std::alloc::{AllocError, Global};
-use wf_core::{BackendId, DirId, Errno, PATH_MAX, PathText};
+use wf_core::{BackendId, DirId, Errno, PATH_MAX, PATH_NAMES_MAX, PathText, SYMLOOP_MAX};
 
 /// What the last of the parts is to a walk.
-#[derive(Clone, Copy, Debug, PartialEq, Eq)]
-pub(crate) enum Manner {
+#[derive(Clone, Copy, PartialEq, Eq)]
+pub enum Manner {
     /// No more than a directory on the way.
     OnWay,
     /// The path's last component, followed where it is a link.
@@ -32,10 +32,10 @@ impl Manner {
 }
 
 /// A directory of a backend.
-#[derive(Clone, Copy, Debug, PartialEq, Eq)]
-pub(crate) struct Spot {
-    pub(crate) backend: u32,
-    pub(crate) directory: u64,
+#[derive(Clone, Copy)]
+pub struct Spot {
+    pub backend: u32,
+    pub directory: u64,
 }
 
 impl Spot {
@@ -62,6 +62,16 @@ impl Spot {
         }
     }
 
+    /// A directory of the same backend.
+    pub(crate) fn beside(self, id: DirId) -> Spot
+        ensures { result ≡ spot_beside self id }
+    {
+        Spot {
+            backend: self.backend,
+            directory: id.number(),
+        }
+    }
+
     /// Where a text starts: at the root where it begins with a slash, else here.
     pub(crate) fn start_of(self, text: &PathText) -> Spot
         ensures { result ≡ start_of text.now self }
@@ -73,11 +83,32 @@ impl Spot {
     }
 }
 
+/// A directory on a path, with what the path may still take.
+#[derive(Clone, Copy)]
+pub struct Station {
+    /// How many names, and how many links.
+    pub names: u32,
+    pub links: u32,
+    pub spot: Spot,
+}
+
+impl Station {
+    /// Where every path starts.
+    pub(crate) fn start() -> Station
+        ensures { result ≡ path_start }
+    {
+        Station {
+            names: PATH_NAMES_MAX,
+            links: SYMLOOP_MAX,
+            spot: Spot::root_of(0),
+        }
+    }
+}
+
 /// Where a walk ended.
-#[derive(Debug, Drop)]
-pub(crate) enum End {
-    /// A directory, with so many names that the path may still take.
-    Directory(u32, Spot),
+#[derive(Drop)]
+pub enum End {
+    Directory(Station),
     /// A file of a backend.
     File(u32, u64),
     /// A link that is not followed, by its text.
@@ -85,15 +116,15 @@ pub(crate) enum End {
 }
 
 /// What a call walks of a path: its parts, or those before the last, which is then kept apart.
-#[derive(Debug, Drop)]
-pub(crate) struct Route {
-    pub(crate) parts: Parts,
-    pub(crate) last: Option<Part>,
-    pub(crate) manner: Manner,
-    pub(crate) slash: bool,
+#[derive(Drop)]
+pub struct Route {
+    pub parts: Parts,
+    pub last: Option<Part>,
+    pub manner: Manner,
+    pub slash: bool,
 }
 
-fn fault_of(path: &PathText) -> Option<Errno>
+pub(crate) fn fault_of(path: &PathText) -> Option<Errno>
     ensures { result ≡ path_fault path.now }
 {
     let length = path.as_bytes().len();

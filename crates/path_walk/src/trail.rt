@@ -1,19 +1,22 @@
 ghost use Rattle.std.specs.Prelude.{◌≡◌, ◌==◌, ◌<◌, false, Ok, Some, IfOk, OnErr};
-ghost use Rattle.path_walk.specs.PathMeaning.{Course};
+ghost use Rattle.path_walk.specs.PathMeaning.{Course, station};
 ghost use Rattle.path_walk.specs.Programs.{finished};
+ghost use Rattle.path_walk.specs.Walk.{node_in};
 ghost use Rattle.path_walk.specs.Machine.{Advances, Meets, Shows, course_along, course_of, goal_program, trail_from, walk_of, way_of, way_up, with_one_name_less};
 
 use crate::call::{Call, Need, Reply};
+use crate::descriptor_call::FileUse;
 use crate::goal::{Goal, Reached};
+use crate::open_stage::OpenStage;
 use crate::part::{Part, Parts};
-use crate::route::{End, Manner, Spot, has_slash};
-use crate::step::{CellId, StoreOp};
-use name_store::{NameOp, Node};
+use crate::route::{End, Manner, Spot, Station, has_slash};
+use crate::step::{CellId, StepAnswer, StoreAnswer, StoreOp};
+use name_store::{NameAnswer, NameOp, Node};
 use std::alloc::{AllocError, Global};
-use wf_core::{Errno, PATH_NAMES_MAX, PathText, SYMLOOP_MAX};
+use wf_core::{Errno, PathText};
 
 /// A walk that is under way: what is left of its path, from where, and its goal.
-#[derive(Debug, Drop)]
+#[derive(Drop)]
 pub(crate) struct Trail {
     pub(crate) rest: Parts,
     pub(crate) manner: Manner,
@@ -26,7 +29,7 @@ pub(crate) struct Trail {
 }
 
 /// How far a call is.
-#[derive(Debug, Drop)]
+#[derive(Drop)]
 pub(crate) enum Stage {
     Start(Call),
     /// It waits for the answer that leads its walk on.
@@ -35,6 +38,14 @@ pub(crate) enum Stage {
     LastOnNames(u32),
     /// It waits for the answer to its last step on files.
     LastOnFiles,
+    /// It waits for what the number names whose file it is to use.
+    Using(FileUse),
+    /// It waits for the answer to a step that frees or copies a number.
+    LastOnDescriptors,
+    /// It waits for the release of a description, and has that reply.
+    Releasing(Reply),
+    /// It opens a path.
+    OpeningFile(OpenStage),
     Over,
 }
 
@@ -88,18 +99,31 @@ pub(crate) fn step(stage: Stage, cell: CellId, op: StoreOp) -> Turn
     turn_of(stage, Need::Step(cell, op))
 }
 
+/// What stands under a name, by the answer to a look-up or to a question for the parent.
+pub(crate) fn node_in(answer: StepAnswer) -> Result<Option<Node>, Errno>
+    ensures { result ≡ node_in answer }
+{
+    match answer {
+        StepAnswer::Answered(StoreAnswer::Names(NameAnswer::Found(node))) => Ok(Some(node)),
+        StepAnswer::Answered(StoreAnswer::Names(NameAnswer::Absent)) => Ok(None),
+        StepAnswer::Answered(_) => Err(Errno::Enoent),
+        StepAnswer::Cancelled => Err(Errno::Ecanceled),
+        StepAnswer::Closed => Err(Errno::Enxio),
+    }
+}
+
 impl Trail {
-    /// The start of a walk, from the root.
-    pub(crate) fn new(rest: Parts, manner: Manner, slash: bool, goal: Goal) -> Trail
-        ensures { result ≡ trail_from rest manner slash goal }
+    /// The start of a walk.
+    pub(crate) fn new(from: Station, rest: Parts, manner: Manner, slash: bool, goal: Goal) -> Trail
+        ensures { result ≡ trail_from from rest manner slash goal }
     {
         Trail {
             rest,
             manner,
             slash,
-            names: PATH_NAMES_MAX,
-            links: SYMLOOP_MAX,
-            spot: Spot::root_of(0),
+            names: from.names,
+            links: from.links,
+            spot: from.spot,
             goal,
         }
     }
@@ -151,7 +175,17 @@ impl Trail {
                 }
             }
         }
-        Advance::Ends(Ok(End::Directory(self.names, self.spot)))
+        Advance::Ends(Ok(End::Directory(self.station())))
+    }
+
+    fn station(&self) -> Station
+        ensures { result ≡ station self.now.names self.now.links self.now.spot }
+    {
+        Station {
+            names: self.names,
+            links: self.links,
+            spot: self.spot,
+        }
     }
 
     /// Asks for the parent of its directory, which is no root.

@@ -1,9 +1,10 @@
+use file_store::{Access, FileOp, Files, Mode};
 use name_store::{NameAnswer, NameOp, NameTree, TreeLine};
 use path_walk::Reply;
 use std::alloc::Global;
 use std::test::*;
 use trace_text::{Fault, Refusal, push_end_line, push_reply_line, push_tree_line, refusal_line};
-use wf_core::{BackendId, DirId, Errno, FileId, Name, PathText, Text};
+use wf_core::{BackendId, DescriptionId, DirId, Errno, FileId, Name, PathText, Text};
 
 fn path_text(alloc: Global, bytes: &[u8]) -> Result<PathText, Fail> {
     Ok(PathText::read(alloc, bytes).ok().ok_or("it has no byte 0")?)
@@ -24,6 +25,12 @@ fn replies(alloc: Global) -> Result<Vec<(Reply, &'static str)>, Fail> {
         "ok A%20~!%25%7F%FF%0A",
     ))?;
     replies.push((Reply::Text(path_text(alloc, b"%_")?), "ok %25_"))?;
+    replies.push((Reply::Fd(1_023), "ok 1023"))?;
+    replies.push((Reply::Bytes(Text::read(alloc, b"")?), "ok %_"))?;
+    let bytes = Text::read(alloc, b"\0a %\xff")?;
+    replies.push((Reply::Bytes(bytes), "ok %00a%20%25%FF"))?;
+    replies.push((Reply::Count(0), "ok 0"))?;
+    replies.push((Reply::At(1_099_511_627_776), "ok 1099511627776"))?;
     replies.push((Reply::Fault(Errno::Eexist), "EEXIST"))?;
     replies.push((Reply::Fault(Errno::Enametoolong), "ENAMETOOLONG"))?;
     Ok(replies)
@@ -101,18 +108,46 @@ fn tree_lines(alloc: Global) -> Result<Vec<(u32, TreeLine)>, Fail> {
         file: FileId::new(4),
     };
     lines.push((4_294_967_295, line))?;
+    let name = Text::read(alloc, b"g")?;
+    let file = FileId::new(0);
+    lines.push((
+        1,
+        TreeLine::File {
+            depth: 1,
+            name,
+            file,
+        },
+    ))?;
     Ok(lines)
+}
+
+/// A group with file 0 alone, which has these bytes behind 4,096 zeros.
+fn group_of(alloc: Global, bytes: &[u8]) -> Result<Files, Fail> {
+    let mut files = Files::new(alloc, 0);
+    let mode = Mode {
+        access: Access::ReadWrite,
+        append: false,
+    };
+    files.apply(&FileOp::Make(mode))?;
+    files.apply(&FileOp::Writeat {
+        description: DescriptionId::new(0),
+        bytes: Text::read(alloc, bytes)?,
+        offset: 4_096,
+    })?;
+    Ok(files)
 }
 
 #[test]
 fn tree_lines_are_printed(rt: HostRuntime) -> Result<(), Fail> {
     let alloc = rt.alloc();
+    let groups = [group_of(alloc, b"a b\0")?];
     let mut out = Vec::new(alloc);
     for (deeper, line) in &tree_lines(alloc)? {
-        push_tree_line(&mut out, *deeper, line)?;
+        push_tree_line(&mut out, &groups, *deeper, line)?;
     }
     push_end_line(&mut out)?;
-    let due = "dir 0 /\ndir 1 m\ndir 2 a%20b\nlink 3 l %C3%A4\nfile 8589934590 f 0\nend\n";
+    let due =
+        "dir 0 /\ndir 1 m\ndir 2 a%20b\nlink 3 l %C3%A4\nfile 8589934590 f 0\nfile 2 g 4100\npage 1 a%20b\nend\n";
     assert_eq!(rt; out.as_slice(), due.as_bytes());
     Ok(())
 }

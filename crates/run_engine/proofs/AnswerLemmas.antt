@@ -1,5 +1,5 @@
 -- Which mounts an answer names.
-use Rattle.std.proofs.Common.{◌≡◌, ℕ, ◌<◌, Bool, true, false, List, Option, None, Some, Result, Ok, Err, IfOk, refl, sym, ap, subst, ◌∙◌}
+use Rattle.std.proofs.Common.{◌≡◌, ℕ, List, Option, None, Some, Result, Ok, Err, IfOk, refl, sym, ap, subst}
 use Rattle.std.specs.declared.alloc.AllocError.{AllocError}
 use Rattle.name_store.specs.declared.operation.Node.{Node}
 use Rattle.name_store.specs.declared.operation.Node.TheVariants.{Dir, Link, File, Mount}
@@ -8,7 +8,7 @@ use Rattle.name_store.specs.declared.operation.NameOp.TheVariants as op
 use Rattle.name_store.specs.declared.operation.NameAnswer.{NameAnswer}
 use Rattle.name_store.specs.declared.operation.NameAnswer.TheVariants.{Gone, Absent, Found, MadeDir, MadeLink, Taken, Done, RemovedFile, RemovedLink, Same, Over, Moved, Names, Fault}
 use Rattle.name_store.specs.Forms.{IsForm}
-use Rattle.name_store.specs.NameTrees.{Tree, Listing, NamesOutcome, dir_at, entry_at, nstep, unless_gone, outcome_of, look_answer_at, addfile_outcome_at}
+use Rattle.name_store.specs.NameTrees.{Tree, Listing, NamesOutcome, dir_at, entry_at, nstep, unless_gone, look_answer_at, addfile_outcome_at}
 use Rattle.name_store.specs.Sound.{node_at, node_in}
 use Rattle.path_walk.specs.Backing.{IsNodeAmong, NamesAmong}
 use Rattle.run_engine.specs.RunStores.{MountsAmong}

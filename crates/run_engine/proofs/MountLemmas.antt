@@ -1,11 +1,9 @@
 -- The backends of a trace can be mounted under their names.
-use Rattle.std.proofs.Common.{◌≡◌, ℕ, ◌+◌, ◌==◌, ◌<◌, ◌≤◌, ◌⊎◌, inl, inr, not, nat_le, Bool, true, false, ◌&&◌, ◌||◌, List, [], ◌∷◌, ◌++◌, length, length-append, Option, None, Some, refl, sym, ap, subst, ◌∙◌, arith, codes}
+use Rattle.std.proofs.Common.{◌≡◌, ℕ, ◌+◌, ◌==◌, ◌<◌, inl, inr, not, nat_le, Bool, true, false, ◌&&◌, List, [], ◌∷◌, ◌++◌, length, length-append, None, refl, sym, subst, arith, codes}
 use Rattle.std.specs.List.{list_all}
 use Rattle.std.proofs.lemmas.Bool.Decides.{nat_tests}
 use Rattle.wf_core.specs.Limits.{backends_max, name_max}
 use Rattle.wf_core.specs.Names.{is_name, is_name_byte, is_dot, is_dot_dot, is_filename, is_text}
-use Rattle.path_walk.specs.declared.call.Call.{Call}
-use Rattle.trace_text.specs.declared.refusal.Refusal.{Refusal}
 use Rattle.trace_text.specs.declared.trace.BackendLine.{BackendLine}
 use Rattle.trace_text.specs.declared.trace.Mode.{Mode}
 use Rattle.trace_text.specs.Traces.{Traced, nothing}
@@ -69,7 +67,7 @@ one_more lines line are few label =
 line_keeps : (mode : Mode) (before : Traced) (line : List ℕ) (after : Traced) → AreMountable before.backends → Says mode before line after → AreMountable after.backends
 line_keeps mode before line after are (short, inl (skipped, is)) = subst (λ (t : Traced). AreMountable t.backends) (sym is) are
 line_keeps mode before line after are (short, inr (not_skipped, inl (name, fields, label, new, few, is))) = subst (λ (t : Traced). AreMountable t.backends) (sym is) are
-line_keeps mode before line after are (short, inr (not_skipped, inr (inl (backend, fields, label, new, few, is)))) =
+line_keeps mode before line after are (short, inr (not_skipped, inr (inl (backend, fields, kind, label, new, few, is)))) =
     subst (λ (t : Traced). AreMountable t.backends) (sym is) (one_more before.backends backend are few label)
 line_keeps mode before line after are (short, inr (not_skipped, inr (inr call))) =
     let (label, word, fields, are_fields, name, is_label, thread, is_thread, form, is_form, made, is_made, few, is) = call in

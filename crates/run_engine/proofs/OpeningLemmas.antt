@@ -1,14 +1,14 @@
 -- The store before the first call.
-use Rattle.std.proofs.Common.{◌≡◌, ◌≢◌, ℕ, ◌+◌, ◌<◌, ◌≤◌, zero, suc, true, ◌⊎◌, inl, inr, List, [], ◌∷◌, ◌++◌, length, map, fold, take, drop, Option, None, Some, slice_get, get_or, refl, sym, ap, subst, ◌∙◌, arith}
+use Rattle.std.proofs.Common.{◌≡◌, ℕ, ◌+◌, ◌<◌, ◌≤◌, zero, suc, inl, inr, List, [], ◌∷◌, ◌++◌, length, map, fold, take, Option, Some, slice_get, get_or, refl, sym, ap, subst, ◌∙◌, arith}
 use Rattle.name_store.specs.declared.operation.Node.{Node}
 use Rattle.name_store.specs.declared.operation.Node.TheVariants.{Mount}
-use Rattle.name_store.specs.NameTrees.{Tree, Listing, entry_at, empty_in, with_entry, with_mount, opening}
-use Rattle.name_store.specs.Sound.{node_at}
+use Rattle.name_store.specs.NameTrees.{Listing, entry_at, empty_in, with_entry, with_mount, opening}
 use Rattle.name_store.proofs.Entries.{same_name, apart_names, entered_here, entered_other}
 use Rattle.name_store.proofs.Soundness.{opening_sound}
-use Rattle.path_walk.specs.Store.{Backend, Store}
+use Rattle.path_walk.specs.Store.{Backend}
 use Rattle.trace_text.specs.declared.trace.BackendLine.{BackendLine}
 use Rattle.trace_text.specs.SoloText.{mounts_from, opening_backend, opening_store}
+use Rattle.run_engine.proofs.SlotLemmas.{opening_among as opening_slots_among}
 use Rattle.run_engine.specs.RunStores.{IsBackend, IsRunStore, MountsAmong}
 
 -- each mount is of one of so many backends
@@ -59,16 +59,17 @@ others_fit backends [] number backend here = cc
 others_fit backends (line ∷ lines) zero backend here = subst (IsBackend backends) (let e : opening_backend [] ≡ backend = cc in e) (opening_fits backends [] tt)
 others_fit backends (line ∷ lines) (suc number) backend here = others_fit backends lines number backend here
 
-each_fits : (backends : ℕ) (lines : List BackendLine) → 1 + length lines ≤ backends → (number : ℕ) (backend : Backend) → slice_get (opening_store lines) number ≡ Some backend → IsBackend backends backend
+each_fits : (backends : ℕ) (lines : List BackendLine) → 1 + length lines ≤ backends → (number : ℕ) (backend : Backend) → slice_get (opening_store lines).backends number ≡ Some backend → IsBackend backends backend
 each_fits backends lines fits zero backend here = subst (IsBackend backends) (let e : opening_backend (mounts_from 1 lines) ≡ backend = cc in e) (opening_fits backends (mounts_from 1 lines) (mounts_below backends 1 lines fits))
 each_fits backends lines fits (suc number) backend here = others_fit backends lines number backend here
 
 pub opening_is_store : (lines : List BackendLine) → IsRunStore (opening_store lines)
 opening_is_store lines =
-    let all : length (opening_store lines) ≡ suc (length lines) = ap suc (length_others lines) in
+    let all : length (opening_store lines).backends ≡ suc (length lines) = ap suc (length_others lines) in
     record {
       root = omega (arith, all);
-      each = each_fits (length (opening_store lines)) lines (omega (arith, all));
+      each = each_fits (length (opening_store lines).backends) lines (omega (arith, all));
+      slots = opening_slots_among (length (opening_store lines).backends);
     }
 
 -- the mounts of one backend more

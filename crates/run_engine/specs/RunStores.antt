@@ -10,13 +10,18 @@ use Rattle.name_store.specs.NameTrees.{Tree}
 use Rattle.name_store.specs.Sound.{IsSound, node_at}
 use Rattle.file_store.specs.declared.file_operation.FileOp.{FileOp}
 use Rattle.file_store.specs.declared.file_operation.FileAnswer.{FileAnswer}
-use Rattle.path_walk.specs.declared.step.StoreAnswer.TheVariants.{Names as NamesAnswer, Files as FilesAnswer}
-use Rattle.path_walk.specs.Store.{Backend, Store, names_step, files_step}
+use Rattle.file_store.specs.declared.descriptor_operation.Slot.{Slot}
+use Rattle.file_store.specs.declared.descriptor_operation.Slot.TheVariants as slot
+use Rattle.file_store.specs.declared.descriptor_operation.FdOp.{FdOp}
+use Rattle.file_store.specs.declared.descriptor_operation.FdAnswer.{FdAnswer}
+use Rattle.file_store.specs.DescriptorMap.{Map, slot_at}
+use Rattle.path_walk.specs.declared.step.StoreAnswer.TheVariants.{Names as NamesAnswer, Files as FilesAnswer, Descriptors as DescriptorsAnswer}
+use Rattle.path_walk.specs.Store.{Backend, Store, names_step, files_step, descriptors_step}
 use Rattle.trace_text.specs.declared.trace.BackendLine.{BackendLine}
 
 -- how many backends there are: the root's is always there
 abbrev pub backends_of : Store → ℕ
-backends_of store = max 1 (length store)
+backends_of store = max 1 (length store.backends)
 
 -- each mount in the names is of one of so many backends
 abbrev pub MountsAmong : ℕ → Tree → Type 0
@@ -28,10 +33,20 @@ pub record IsBackend (backends : ℕ) (backend : Backend) : Type 0 where
   pub sound : IsSound backend.names
   pub mounts : MountsAmong backends backend.names
 
+-- what a number names is of one of so many backends
+abbrev pub IsSlotAmong : ℕ → Slot → Type 0
+IsSlotAmong backends (slot.File backend description) = backend < backends
+IsSlotAmong backends (slot.Dir backend directory) = backend < backends
+IsSlotAmong backends other = Unit {0}
+
+abbrev pub SlotsAmong : ℕ → Map → Type 0
+SlotsAmong backends map = (number : ℕ) → IsSlotAmong backends (slot_at map number)
+
 pub record IsRunStore (store : Store) : Type 0 where
   -- the root's backend is there
-  pub root : 0 < length store
-  pub each : (number : ℕ) (backend : Backend) → slice_get store number ≡ Some backend → IsBackend (length store) backend
+  pub root : 0 < length store.backends
+  pub each : (number : ℕ) (backend : Backend) → slice_get store.backends number ≡ Some backend → IsBackend (length store.backends) backend
+  pub slots : SlotsAmong (length store.backends) store.descriptors
 
 -- a step of that kind led from one store to another, and answered so
 abbrev pub IsNamesStep : Store → ℕ → NameOp → Store → NameAnswer → Type 0
@@ -39,6 +54,9 @@ IsNamesStep old backend op new answer = names_step old backend op ≡ record { s
 
 abbrev pub IsFilesStep : Store → ℕ → ℕ → FileOp → Store → FileAnswer → Type 0
 IsFilesStep old backend group op new answer = files_step old backend group op ≡ record { store = new; answer = FilesAnswer answer }
+
+abbrev pub IsDescriptorsStep : Store → FdOp → Store → FdAnswer → Type 0
+IsDescriptorsStep old op new answer = descriptors_step old op ≡ record { store = new; answer = DescriptorsAnswer answer }
 
 -- the backends of a trace: few enough for their numbers, and each is named as a directory may be
 pub record AreMountable (lines : List BackendLine) : Type 0 where

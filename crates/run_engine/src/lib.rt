@@ -4,5 +4,7 @@
 pub use commands::solo;
 
 mod commands;
+mod reply_numbers;
+mod run;
 mod run_store;
 mod solo_run;

@@ -1,14 +1,15 @@
 ghost use Rattle.std.specs.Prelude.{◌≡◌, ◌<◌, true, length, slice_get, option_copied, option_map, IfOk, OnErr};
-ghost use Rattle.path_walk.specs.Store.{Backend, names_at};
+ghost use Rattle.path_walk.specs.Store.{Backend, backend_at};
 ghost use Rattle.wf_core.specs.Limits.{group_count};
 ghost use Rattle.name_store.specs.Forms.{IsForm};
 ghost use Rattle.file_store.specs.FileForms.{IsForm as IsFileForm};
-ghost use Rattle.path_walk.specs.Backing.{NamesAmong};
+ghost use Rattle.file_store.specs.DescriptorMap.{IsForm as IsFdForm};
+ghost use Rattle.path_walk.specs.Backing.{DescriptorsAmong, IsFdOpAmong, NamesAmong};
 ghost use Rattle.wf_core.specs.Names.{is_name};
 ghost use Rattle.trace_text.specs.SoloText.{mounts_from, opening_backend, opening_store};
-ghost use Rattle.run_engine.specs.RunStores.{AreMountable, IsNamesStep, IsFilesStep, backends_of};
+ghost use Rattle.run_engine.specs.RunStores.{AreMountable, IsDescriptorsStep, IsNamesStep, IsFilesStep, backends_of};
 
-use file_store::{FileAnswer, FileOp, Files};
+use file_store::{Descriptors, FdAnswer, FdOp, FileAnswer, FileOp, Files};
 use name_store::{NameAnswer, NameOp, NameTree};
 use path_walk::{Backends, CellId, StepAnswer, StoreAnswer, StoreOp};
 use std::alloc::{AllocError, Global};
@@ -44,12 +45,25 @@ impl MemoryBackend {
         groups.push(Files::new(alloc, 3))?;
         Ok(MemoryBackend { names, groups })
     }
+
+    pub(crate) fn names(&self) -> &NameTree
+        ensures { result.now ≡ self.now.names }
+    {
+        &self.names
+    }
+
+    pub(crate) fn groups(&self) -> &[Files]
+        ensures { result.now ≡ self.now.groups }
+    {
+        self.groups.as_slice()
+    }
 }
 
-/// The backends that one run has for itself, the root's first.
+/// What one run has for itself: its backends, the root's first, and its descriptors.
 #[derive(Drop)]
 pub(crate) struct RunStore {
     backends: Vec<MemoryBackend>,
+    descriptors: Descriptors,
 }
 
 impl Model for RunStore {
@@ -58,13 +72,15 @@ impl Model for RunStore {
 
     ghost Value = { Store };
 
-    ghost view = { λ s. s.backends.items };
+    ghost view = { λ s. record { backends = s.backends.items; descriptors = s.descriptors } };
 
-    ghost invariant = { λ s. IsRunStore s.backends.items };
+    ghost invariant = { λ s. IsRunStore
+        (record { backends = s.backends.items; descriptors = s.descriptors }) };
 }
 
 impl RunStore {
-    /// The store before the first call: each backend is mounted in the root directory under its name, and all are empty.
+    /// The store before the first call: each backend is mounted in the root directory under its name, all are empty, and no
+    /// descriptor is open.
     pub(crate) fn new(alloc: Global, lines: &[BackendLine]) -> Result<RunStore, AllocError>
         requires { AreMountable lines.now }
         ensures { IfOk result (λ store. store ≡ opening_store lines.now) }
@@ -74,35 +90,35 @@ impl RunStore {
         for _ in lines {
             backends.push(MemoryBackend::new(alloc, Vec::new(alloc))?)?;
         }
-        Ok(RunStore { backends })
+        let descriptors = Descriptors::new(alloc)?;
+        Ok(RunStore {
+            backends,
+            descriptors,
+        })
     }
 
-    /// The names of the root's backend.
-    pub(crate) fn root_names(&self) -> &NameTree
-        ensures { result.now ≡ names_at self.now 0 }
+    /// The root's backend.
+    pub(crate) fn root(&self) -> &MemoryBackend
+        ensures { result.now ≡ backend_at self.now 0 }
     {
         match self.backends.first() {
-            Some(root) => &root.names,
+            Some(root) => root,
             None => unreachable!(),
         }
     }
 
-    /// The names of a backend that is there.
-    pub(crate) fn names_of(&self, backend: BackendId) -> Option<&NameTree>
-        ensures { option_copied result
-            ≡ option_map (λ (b : Backend). b.names) (slice_get self.now backend) }
+    /// A backend that is there.
+    pub(crate) fn backend(&self, backend: BackendId) -> Option<&MemoryBackend>
+        ensures { option_copied result ≡ slice_get self.now.backends backend }
     {
-        match self.backends.get(backend.number() as usize) {
-            Some(backend) => Some(&backend.names),
-            None => None,
-        }
+        self.backends.get(backend.number() as usize)
     }
 
     fn names_step(&mut self, backend: BackendId, op: &NameOp) -> Result<NameAnswer, AllocError>
         requires { backend < backends_of self.old }
         ensures form { IfOk result (IsForm op.now) }
         ensures among { IfOk result (NamesAmong (backends_of self.old)) }
-        ensures same { length self.new ≡ length self.old }
+        ensures same { length self.new.backends ≡ length self.old.backends }
         ensures ok { IfOk result (IsNamesStep self.old backend op.now self.new) }
         ensures err { OnErr result (self.new ≡ self.old) }
     {
@@ -118,11 +134,21 @@ impl RunStore {
         requires backend { backend < backends_of self.old }
         requires group { group < group_count }
         ensures form { IfOk result (IsFileForm op.now) }
-        ensures same { length self.new ≡ length self.old }
+        ensures same { length self.new.backends ≡ length self.old.backends }
         ensures ok { IfOk result (IsFilesStep self.old backend group op.now self.new) }
         ensures err { OnErr result (self.new ≡ self.old) }
     {
         self.backends[backend.number() as usize].groups[group as usize].apply(op)
+    }
+
+    fn descriptors_step(&mut self, op: &FdOp) -> FdAnswer
+        requires { IsFdOpAmong (backends_of self.old) op.now }
+        ensures form { IsFdForm op.now result }
+        ensures among { DescriptorsAmong (backends_of self.old) result }
+        ensures same { length self.new.backends ≡ length self.old.backends }
+        ensures ok { IsDescriptorsStep self.old op.now self.new result }
+    {
+        self.descriptors.apply(op)
     }
 }
 
@@ -152,6 +178,10 @@ impl Backends for RunStore {
             (CellId::Files(backend, group), StoreOp::Files(op)) => {
                 let answer = self.files_step(*backend, *group, op)?;
                 Ok(StepAnswer::Answered(StoreAnswer::Files(answer)))
+            }
+            (CellId::Descriptors, StoreOp::Descriptors(op)) => {
+                let answer = self.descriptors_step(op);
+                Ok(StepAnswer::Answered(StoreAnswer::Descriptors(answer)))
             }
             _ => unreachable!(),
         }

@@ -1,16 +1,13 @@
-ghost use Rattle.std.specs.Prelude.{◌≡◌, ◌++◌, drop, IfOk, OnOk};
-ghost use Rattle.std.specs.List.{flat_map};
-ghost use Rattle.name_store.specs.TreeLines.{tree_lines};
-ghost use Rattle.path_walk.specs.Posix.{posix};
-ghost use Rattle.path_walk.specs.Store.{names_at};
-ghost use Rattle.trace_text.specs.Traces.{traced};
-ghost use Rattle.trace_text.specs.Texts.{reply_line, tree_text};
-ghost use Rattle.trace_text.specs.SoloText.{line_text, mounted_text, replies_text, solo_text, store_after, store_text, thread_name};
+ghost use Rattle.std.specs.Prelude.{◌≡◌, ◌++◌, IfOk, OnOk};
+ghost use Rattle.path_walk.specs.Store.{Store};
+ghost use Rattle.trace_text.specs.Traces.{thread_name, traced};
+ghost use Rattle.trace_text.specs.Texts.{reply_line};
+ghost use Rattle.trace_text.specs.SoloText.{after_call_line, mounted_text, outcome_of_line, replies_text, solo_text, store_after, store_text};
 ghost use Rattle.run_engine.specs.RunStores.{AreMountable};
 
+use crate::run::Run;
 use crate::run_store::RunStore;
 use name_store::TreeLine;
-use path_walk::perform;
 use std::alloc::{AllocError, Global};
 use trace_text::{CallLine, Trace, push_end_line, push_reply_line, push_tree_line};
 use wf_core::Text;
@@ -20,16 +17,11 @@ pub(crate) fn run_solo(alloc: Global, trace: Trace) -> Result<Vec<u8>, AllocErro
     requires { AreMountable (traced trace).backends }
     ensures { IfOk result (λ text. text.items ≡ solo_text (traced trace)) }
 {
-    let Trace {
-        version: _,
-        threads,
-        backends,
-        calls,
-    } = trace;
+    let mut run = Run::new(alloc, &trace)?;
     let mut text = Vec::new(alloc);
-    let mut store = RunStore::new(alloc, backends.as_slice())?;
-    run_calls(alloc, threads.as_slice(), calls, &mut store, &mut text)?;
-    push_tree(alloc, &store, &mut text)?;
+    let Trace { threads, calls, .. } = trace;
+    run_calls(alloc, threads.as_slice(), calls, &mut run, &mut text)?;
+    push_tree(alloc, run.store(), &mut text)?;
     push_end_line(&mut text)?;
     Ok(text)
 }
@@ -38,15 +30,15 @@ fn run_calls(
     alloc: Global,
     threads: &[Text],
     calls: Vec<CallLine>,
-    store: &mut RunStore,
+    run: &mut Run,
     text: &mut Vec<u8>,
 ) -> Result<(), AllocError>
     ensures text { OnOk result
-        (text.new.items ≡ text.old.items ++ replies_text threads.now store.old calls.items) }
-    ensures store { OnOk result (store.new ≡ store_after store.old calls.items) }
+        (text.new.items ≡ text.old.items ++ replies_text threads.now run.old calls.items) }
+    ensures store { OnOk result (run.new.store ≡ store_after run.old calls.items) }
 {
     for line in calls {
-        run_call(alloc, threads, line, store, text)?;
+        run_call(alloc, threads, line, run, text)?;
     }
     Ok(())
 }
@@ -55,16 +47,17 @@ fn run_call(
     alloc: Global,
     threads: &[Text],
     line: CallLine,
-    store: &mut RunStore,
+    run: &mut Run,
     text: &mut Vec<u8>,
 ) -> Result<(), AllocError>
-    ensures text { OnOk result (text.new.items ≡ text.old.items
-        ++ reply_line (thread_name threads.now line.thread) line.number (posix store.old line.call).reply) }
-    ensures store { OnOk result (store.new ≡ (posix store.old line.call).store) }
+    ensures text { OnOk result (text.new.items ≡ text.old.items ++ reply_line
+        (thread_name threads.now line.thread) line.number (outcome_of_line run.old line).reply) }
+    ensures after { OnOk result (run.new ≡ after_call_line run.old line) }
 {
     let name = name_of(threads, line.thread);
-    let reply = perform(alloc, line.call, store)?;
-    push_reply_line(text, name, line.number, &reply)
+    let number = line.number;
+    let reply = run.take(alloc, line)?;
+    push_reply_line(text, name, number, &reply)
 }
 
 fn name_of(threads: &[Text], thread: u32) -> &[u8]
@@ -80,9 +73,10 @@ fn name_of(threads: &[Text], thread: u32) -> &[u8]
 fn push_tree(alloc: Global, store: &RunStore, text: &mut Vec<u8>) -> Result<(), AllocError>
     ensures { OnOk result (text.new.items ≡ text.old.items ++ store_text store.now) }
 {
-    let lines = store.root_names().lines(alloc)?;
+    let root = store.root();
+    let lines = root.names().lines(alloc)?;
     for line in lines.as_slice() {
-        push_tree_line(text, 0, line)?;
+        push_tree_line(text, root.groups(), 0, line)?;
         push_mounted(alloc, store, line, text)?;
     }
     Ok(())
@@ -100,15 +94,15 @@ fn push_mounted(
     let TreeLine::Mount { depth, backend, .. } = line else {
         return Ok(());
     };
-    let Some(names) = store.names_of(*backend) else {
+    let Some(backend) = store.backend(*backend) else {
         return Ok(());
     };
-    let lines = names.lines(alloc)?;
+    let lines = backend.names().lines(alloc)?;
     let Some((_, below)) = lines.as_slice().split_first() else {
         return Ok(());
     };
     for line in below {
-        push_tree_line(text, *depth, line)?;
+        push_tree_line(text, backend.groups(), *depth, line)?;
     }
     Ok(())
 }

@@ -4,13 +4,13 @@ use Rattle.std.specs.List.{list_any}
 use Rattle.std.proofs.lemmas.List.{length-map}
 use Rattle.wf_core.specs.Limits.{threads_max, backends_max, calls_max}
 use Rattle.wf_core.specs.Names.{is_text}
-use Rattle.path_walk.specs.declared.call.Call.{Call}
+use Rattle.trace_text.specs.declared.trace_call.TraceCall.{TraceCall}
 use Rattle.trace_text.specs.declared.refusal.Fault.{Fault}
 use Rattle.trace_text.specs.declared.refusal.Fault.TheVariants.{UnknownWord, BadArgument, UnknownName, DuplicateName, TooManyCalls, TooManyThreads, TooManyBackends}
 use Rattle.trace_text.specs.declared.trace.BackendLine.{BackendLine}
-use Rattle.trace_text.specs.declared.trace.Mode.{Mode}
+use Rattle.trace_text.specs.Openings.{openings_of}
 use Rattle.trace_text.specs.Traces.{Traced, is_declared, with_thread, with_backend, with_call}
-use Rattle.trace_text.specs.Words.{Form, form_of, call_in}
+use Rattle.trace_text.specs.Words.{Form, form_of}
 use Rattle.trace_text.specs.Lines.{after_thread, after_backend, call_behind, after_call_of, after_call}
 use Rattle.trace_text.specs.Faults.{Declarations, has_name, backend_name, call_behind_label, call_with_form, form_behind, has_name_in}
 
@@ -60,26 +60,30 @@ backend_agrees trace (Some backend) Then h =
     (guard (is_declared trace backend.name) DuplicateName _ _ Then (λ free.
     guard (nat_le backends_max (length trace.backends + 1)) TooManyBackends (Ok (with_backend trace backend)) None Then (λ room. (refl, h backend refl free room)))))
 
-room_agrees : (trace : Traced) (thread : ℕ) (call : Option Call) (Then : Traced → Type 0)
-    → ((made : Call) → call ≡ Some made → nat_le calls_max (length trace.calls) ≡ false → Then (with_call trace thread made))
+room_agrees : (trace : Traced) (thread : ℕ) (call : Option TraceCall) (Then : Traced → Type 0)
+    → ((made : TraceCall) → call ≡ Some made → nat_le calls_max (length trace.calls) ≡ false → Then (with_call trace thread made))
     → Agrees (after_call_of trace thread (ok_or call BadArgument)) (if is_none call then Some BadArgument else if nat_le calls_max (length trace.calls) then Some TooManyCalls else None) Then
 room_agrees trace thread None Then h = refl
 room_agrees trace thread (Some call) Then h = guard (nat_le calls_max (length trace.calls)) TooManyCalls (Ok (with_call trace thread call)) None Then (λ room. (refl, h call refl room))
 
-form_agrees : (trace : Traced) (thread : ℕ) (form : Option Form) (fields : List (List ℕ)) (Then : Traced → Type 0)
-    → ((found : Form) (made : Call) → form ≡ Some found → call_in found fields ≡ Some made → nat_le calls_max (length trace.calls) ≡ false → Then (with_call trace thread made))
-    → Agrees (after_call_of trace thread (call_behind (option_map (λ f. call_in f fields) form)))
-    (if is_none form then Some UnknownWord else if is_none (call_with_form form fields) then Some BadArgument else if nat_le calls_max (length trace.calls) then Some TooManyCalls else None) Then
-form_agrees trace thread None fields Then h = refl
-form_agrees trace thread (Some form) fields Then h = room_agrees trace thread (call_in form fields) Then (λ made e room. h form made refl e room)
+form_agrees : (trace : Traced) (openings : List Bool) (thread : ℕ) (form : Option Form) (fields : List (List ℕ)) (Then : Traced → Type 0)
+    → ((found : Form) (made : TraceCall) → form ≡ Some found → found openings fields ≡ Some made → nat_le calls_max (length trace.calls) ≡ false → Then (with_call trace thread made))
+    → Agrees (after_call_of trace thread (call_behind (option_map (λ f. f openings fields) form)))
+    (if is_none form then Some UnknownWord else if is_none (call_with_form openings form fields) then Some BadArgument else if nat_le calls_max (length trace.calls) then Some TooManyCalls else None) Then
+form_agrees trace openings thread None fields Then h = refl
+form_agrees trace openings thread (Some form) fields Then h = room_agrees trace thread (form openings fields) Then (λ made e room. h form made refl e room)
 
-pub call_agrees : (mode : Mode) (trace : Traced) (thread : Option ℕ) (fields : List (List ℕ)) (Then : Traced → Type 0)
-    → ((number : ℕ) (word : List ℕ) (rest : List (List ℕ)) (form : Form) (made : Call) → thread ≡ Some number → fields ≡ word ∷ rest → form_of mode word ≡ Some form
-    → call_in form rest ≡ Some made → nat_le calls_max (length trace.calls) ≡ false → Then (with_call trace number made))
-    → Agrees (after_call mode trace thread fields)
-    (if is_none thread then Some UnknownName else if is_none (form_behind mode fields) then Some UnknownWord else if is_none (call_behind_label mode fields) then Some BadArgument
+-- the opening calls are told of the lines before, and of the trace
+pub call_agrees : (trace : Traced) (openings : List Bool) (thread : Option ℕ) (fields : List (List ℕ)) (Then : Traced → Type 0) → ((number : ℕ) → thread ≡ Some number → openings ≡ openings_of number trace.calls)
+    → ((number : ℕ) (word : List ℕ) (rest : List (List ℕ)) (form : Form) (made : TraceCall) → thread ≡ Some number → fields ≡ word ∷ rest → form_of word ≡ Some form
+    → form (openings_of number trace.calls) rest ≡ Some made → nat_le calls_max (length trace.calls) ≡ false → Then (with_call trace number made))
+    → Agrees (after_call trace thread fields)
+    (if is_none thread then Some UnknownName else if is_none (form_behind fields) then Some UnknownWord else if is_none (call_behind_label openings fields) then Some BadArgument
     else if nat_le calls_max (length trace.calls) then Some TooManyCalls else None) Then
-call_agrees mode trace None fields Then h = refl
-call_agrees mode trace (Some thread) [] Then h = refl
-call_agrees mode trace (Some thread) (word ∷ fields) Then h =
-    form_agrees trace thread (form_of mode word) fields Then (λ form made e f room. h thread word fields form made refl refl e f room)
+call_agrees trace openings None fields Then same h = refl
+call_agrees trace openings (Some thread) [] Then same h = refl
+call_agrees trace openings (Some thread) (word ∷ fields) Then same h =
+    subst (λ (o : List Bool). Agrees (after_call trace (Some thread) (word ∷ fields))
+    (if is_none (form_of word) then Some UnknownWord else if is_none (call_with_form o (form_of word) fields) then Some BadArgument else if nat_le calls_max (length trace.calls) then Some TooManyCalls else None) Then)
+    (sym (same thread refl))
+    (form_agrees trace (openings_of thread trace.calls) thread (form_of word) fields Then (λ form made e f room. h thread word fields form made refl refl e f room))

@@ -12,14 +12,14 @@ found_at : (b : Bool) (place at : ℕ) → cond b (Some place) None ≡ Some at 
 found_at true place at e = (refl, (cc))
 found_at false place at e = (cc)
 
-found_nowhere : (b : Bool) (place : ℕ) → cond b (Some place) None ≡ None → b ≡ false
+pub found_nowhere : (b : Bool) (place : ℕ) → cond b (Some place) None ≡ None → b ≡ false
 found_nowhere true place e = (cc)
 found_nowhere false place e = refl
 
 below : (a b : ℕ) → nat_lt a b ≡ true → a < b
 below a b h = grind (arith, nat_tests)
 
-not_below : (a b : ℕ) → nat_lt a b ≡ false → b ≤ a
+pub not_below : (a b : ℕ) → nat_lt a b ≡ false → b ≤ a
 not_below a b h = grind (arith, nat_tests)
 
 -- the whole rest of a list

@@ -9,7 +9,7 @@ use Rattle.trace_text.specs.declared.trace.Mode.{Mode}
 use Rattle.trace_text.specs.Fields.{pieces_of}
 use Rattle.trace_text.specs.Reading.{trace_at}
 use Rattle.trace_text.specs.Refusals.{refusal_at}
-use Rattle.trace_text.specs.Faults.{Line, line_of, lines_from, lines_of, declarations, first_fault_of, line_conditions, header_conditions, first_of, fault_behind, fault_in, first_fault}
+use Rattle.trace_text.specs.Faults.{Line, line_of, lines_from, lines_of, first_fault_of, line_conditions, header_conditions, first_of, fault_behind, fault_in, first_fault}
 use Rattle.trace_text.specs.Laws.{IsRead, line_bytes, text_of, front_of}
 use Rattle.trace_text.proofs.Cuts.{first_piece}
 use Rattle.trace_text.proofs.Whole.{read_or_refused}
@@ -99,7 +99,7 @@ Fronts mode number before lines refusal =
 some_is : {A : Type 0} (x y : A) → Some x ≡ Some y → x ≡ y
 some_is x y e = (cc)
 
-here : (mode : Mode) (number : ℕ) (before : List (List ℕ)) (line : Line) (lines : List Line) (refusal : Refusal) (met : Option Fault) → first_fault_of (line_conditions mode (declarations before) line) ≡ met
+here : (mode : Mode) (number : ℕ) (before : List (List ℕ)) (line : Line) (lines : List Line) (refusal : Refusal) (met : Option Fault) → first_fault_of (line_conditions mode before line) ≡ met
     → first_of number met (fault_behind mode (number + 1) (before ++ line.text ∷ []) lines) ≡ Some refusal
     → (fault_behind mode (number + 1) (before ++ line.text ∷ []) lines ≡ Some refusal → Fronts mode (number + 1) (before ++ line.text ∷ []) lines refusal)
     → Fronts mode number before (line ∷ lines) refusal
@@ -126,7 +126,7 @@ here mode number before line lines refusal (Some fault) m e more = (
 fronts : (mode : Mode) (number : ℕ) (before : List (List ℕ)) (lines : List Line) (refusal : Refusal) → fault_behind mode number before lines ≡ Some refusal → Fronts mode number before lines refusal
 fronts mode number before [] refusal e = (let clash : None ≡ Some refusal = e in cc clash)
 fronts mode number before (line ∷ lines) refusal e =
-    here mode number before line lines refusal (first_fault_of (line_conditions mode (declarations before) line)) refl e
+    here mode number before line lines refusal (first_fault_of (line_conditions mode before line)) refl e
     (fronts mode (number + 1) (before ++ line.text ∷ []) lines refusal)
 
 -- with line 1

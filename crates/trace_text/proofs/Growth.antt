@@ -12,13 +12,13 @@ as_list : {A : Type 0} (x : Option A) → cons_option x [] ≡ option_to_list x
 as_list None = refl
 as_list (Some x) = refl
 
-one_more : (h : List ℕ → Option (List ℕ)) (before : List (List ℕ)) (line : List ℕ) (x : Option (List ℕ)) → h line ≡ x → filter_map h (before ++ line ∷ []) ≡ filter_map h before ++ option_to_list x
-one_more h before line x e =
-    filter_map-append h before (line ∷ []) ∙ ap (λ (found : Option (List ℕ)). filter_map h before ++ cons_option found []) e ∙ ap (λ (front : List (List ℕ)). filter_map h before ++ front) (as_list x)
+pub one_more : {A B : Type 0} (h : A → Option B) (before : List A) (line : A) (x : Option B) → h line ≡ x → filter_map h (before ++ line ∷ []) ≡ filter_map h before ++ option_to_list x
+one_more {A} {B} h before line x e =
+    filter_map-append h before (line ∷ []) ∙ ap (λ (found : Option B). filter_map h before ++ cons_option found []) e ∙ ap (λ (front : List B). filter_map h before ++ front) (as_list x)
 
-count_more : (p : List ℕ → Bool) (before : List (List ℕ)) (line : List ℕ) (b : Bool) → p line ≡ b → count_by p (before ++ line ∷ []) ≡ count_by p before + cond b 1 0
-count_more p before line b e =
-    let more : count_by p (before ++ line ∷ []) ≡ count_by p before + (0 + cond (p line) 1 0) = sum_by-append (λ (text : List ℕ). cond (p text) 1 0) before (line ∷ []) in
+pub count_more : {A : Type 0} (p : A → Bool) (before : List A) (line : A) (b : Bool) → p line ≡ b → count_by p (before ++ line ∷ []) ≡ count_by p before + cond b 1 0
+count_more {A} p before line b e =
+    let more : count_by p (before ++ line ∷ []) ≡ count_by p before + (0 + cond (p line) 1 0) = sum_by-append (λ (x : A). cond (p x) 1 0) before (line ∷ []) in
     more ∙ ap (λ (n : ℕ). count_by p before + n) (zero_before (cond (p line) 1 0) ∙ ap (λ (c : Bool). cond c 1 0) e)
   where
     zero_before : (n : ℕ) → 0 + n ≡ n

@@ -4,6 +4,11 @@ pub mod Numbers
 pub mod Steps
 pub mod Agreement
 pub mod Growth
+pub mod Positions
+pub mod Rows
+pub mod Followed
+pub mod Opened
+pub mod PageTexts
 pub mod LineAgreement
 pub mod Whole
 pub mod ReadingAnswers

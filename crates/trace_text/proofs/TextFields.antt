@@ -1,10 +1,14 @@
 -- What text fields stand for.
-use Rattle.std.proofs.Common.{◌≡◌, ◌≢◌, ℕ, ◌==◌, ◌/◌, ◌%◌, ◌&&◌, Bool, true, false, if◌then◌else◌, List, [], ◌∷◌, ◌++◌, length, codes, Option, None, Some, option_map, refl, ◌∙◌, ap, subst, append_assoc, arith}
+use Rattle.std.proofs.Common.{◌≡◌, ◌≢◌, ℕ, zero, suc, ◌<◌, ◌==◌, ◌/◌, ◌%◌, ◌&&◌, Bool, true, false, if◌then◌else◌, List, [], ◌∷◌, ◌++◌, length, take, drop, get_or, position, not, codes, Option, None, Some, option_map, refl, ◌∙◌, sym, ap, subst, append_assoc, append-nil, arith}
 use Rattle.std.specs.List.{list_all, flat_map}
+use Rattle.std.proofs.lemmas.List.Quantifiers.{position-Some}
+use Rattle.trace_text.proofs.Positions.{fails_at}
+use Rattle.std.proofs.lemmas.Grind.{flat_map-append}
+use Rattle.std.proofs.lemmas.List.{take-append-drop}
 use Rattle.std.proofs.lemmas.Bool.Decides.{nat_tests}
 use Rattle.std.proofs.lemmas.Slice.Eq.{bytes_eq-Decides}
 use Rattle.wf_core.specs.Names.{is_text}
-use Rattle.trace_text.specs.Fields.{byte_field, bytes_in, escape_value, is_plain, onto, onto_escaped, text_in, text_field, hex_digit}
+use Rattle.trace_text.specs.Fields.{byte_field, bytes_in, escape_value, is_plain, onto, onto_escaped, text_in, hex_digit}
 
 -- one byte more of the front
 pub onto_front : (front : List ℕ) (byte : ℕ) (rest : Option (List ℕ)) → option_map (λ bytes. (front ++ byte ∷ []) ++ bytes) rest ≡ option_map (λ bytes. front ++ bytes) (onto byte rest)
@@ -53,13 +57,62 @@ pub some_bytes_in : (field : List ℕ) → (length field == 0) ≡ false → len
 some_bytes_in field h = grind (arith, nat_tests)
 
 -- plain bytes are printed as they are
-plain_fields : (text : List ℕ) → list_all is_plain text ≡ true → flat_map byte_field text ≡ text
+pub plain_fields : (text : List ℕ) → list_all is_plain text ≡ true → flat_map byte_field text ≡ text
 plain_fields [] h = refl
 plain_fields (byte ∷ text) h =
     let parts = both (is_plain byte) (list_all is_plain text) h in
     ap (λ (b : Bool). (if b then byte ∷ [] else 37 ∷ hex_digit (byte / 16) ∷ hex_digit (byte % 16) ∷ []) ++ flat_map byte_field text) parts.0
     ∙ ap (λ (bytes : List ℕ). byte ∷ bytes) (plain_fields text parts.1)
 
-pub plain_field : (text : List ℕ) → length text ≢ 0 → list_all is_plain text ≡ true → text_field text ≡ text
-plain_field [] some h = absurd (some refl)
-plain_field (byte ∷ text) some h = plain_fields (byte ∷ text) h
+-- a run of plain bytes is printed as it is, before what follows it
+pub plain_run : (size : ℕ) (text : List ℕ) → list_all is_plain (take size text) ≡ true → flat_map byte_field text ≡ take size text ++ flat_map byte_field (drop size text)
+plain_run size text h =
+    ap (flat_map byte_field) (sym (take-append-drop size text)) ∙ flat_map-append byte_field (take size text) (drop size text)
+    ∙ ap (λ (front : List ℕ). front ++ flat_map byte_field (drop size text)) (plain_fields (take size text) h)
+
+-- one run more of what is printed
+
+run_with : (text : List ℕ) (size : ℕ) (rest back whole : List ℕ) → back ≡ drop size rest → list_all is_plain (take size rest) ≡ true → text ++ flat_map byte_field rest ≡ whole
+    → (text ++ take size rest) ++ flat_map byte_field back ≡ whole
+run_with text size rest back whole e h so_far =
+    ap (λ (left : List ℕ). (text ++ take size rest) ++ flat_map byte_field left) e ∙ append_assoc text (take size rest) (flat_map byte_field (drop size rest))
+    ∙ ap (λ (more : List ℕ). text ++ more) (sym (plain_run size rest h)) ∙ so_far
+
+nothing : (back : List ℕ) → length back ≡ 0 → back ≡ []
+nothing [] h = refl
+nothing (byte ∷ back) h = absurd (some (length back) h)
+  where
+    some : (n : ℕ) → suc n ≡ 0 → ⊥
+    some n h = omega (arith, h)
+
+pub run_last : (text : List ℕ) (size : ℕ) (rest back whole : List ℕ) → back ≡ drop size rest → length back ≡ 0 → list_all is_plain (take size rest) ≡ true → text ++ flat_map byte_field rest ≡ whole
+    → text ++ take size rest ≡ whole
+run_last text size rest back whole e none h so_far =
+    sym (append-nil (text ++ take size rest)) ∙ ap (λ (left : List ℕ). (text ++ take size rest) ++ flat_map byte_field left) (sym (nothing back none)) ∙ run_with text size rest back whole e h so_far
+
+pub run_more : (text : List ℕ) (size byte : ℕ) (rest back left whole : List ℕ) → back ≡ drop size rest → back ≡ byte ∷ left → list_all is_plain (take size rest) ≡ true → text ++ flat_map byte_field rest ≡ whole
+    → ((text ++ take size rest) ++ byte_field byte) ++ flat_map byte_field left ≡ whole
+run_more text size byte rest back left whole e cut h so_far =
+    append_assoc (text ++ take size rest) (byte_field byte) (flat_map byte_field left)
+    ∙ ap (λ (bytes : List ℕ). (text ++ take size rest) ++ flat_map byte_field bytes) (sym cut) ∙ run_with text size rest back whole e h so_far
+
+-- bytes that are plain one by one
+
+plain_each : (size : ℕ) (text : List ℕ) → ((k : ℕ) → k < size → is_plain (get_or text k 0) ≡ true) → list_all is_plain (take size text) ≡ true
+plain_each zero text h = refl
+plain_each (suc size) [] h = refl
+plain_each (suc size) (byte ∷ text) h =
+    ap (λ (b : Bool). b && list_all is_plain (take size text)) (h 0 (omega arith)) ∙ plain_each size text (λ k low. h (suc k) (omega (arith, low)))
+
+is_so : (b : Bool) → not b ≡ false → b ≡ true
+is_so true h = refl
+is_so false h = (cc)
+
+pub plain_front : (text : List ℕ) (size : ℕ) → position (λ byte. not (is_plain byte)) text ≡ Some size → list_all is_plain (take size text) ≡ true
+plain_front text size e =
+    let found = position-Some (λ (byte : ℕ). not (is_plain byte)) text size 0 e in
+    plain_each size text (λ k low. is_so (is_plain (get_or text k 0)) (found.2 k low))
+
+pub all_plain : (text : List ℕ) → position (λ byte. not (is_plain byte)) text ≡ None → list_all is_plain (take (length text) text) ≡ true
+all_plain text e =
+    plain_each (length text) text (λ k low. is_so (is_plain (get_or text k 0)) (fails_at (λ (byte : ℕ). not (is_plain byte)) text k 0 e low))

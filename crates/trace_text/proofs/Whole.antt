@@ -1,22 +1,24 @@
 -- What is read is a trace by the grammar, and what is not read has the first fault of its first faulty line.
-use Rattle.std.proofs.Common.{◌≡◌, ℕ, suc, ◌+◌, ◌==◌, ◌≤◌, ◌<◌, ◌⊎◌, inl, inr, not, nat_le, nat_lt, if◌then◌else◌, Bool, true, false, List, [], ◌∷◌, ◌++◌, length, codes, Option, None, Some, option_map, Result, Ok, Err, ok_or, refl, sym, ◌∙◌, ap, subst, arith}
+use Rattle.std.proofs.Common.{◌≡◌, ℕ, suc, ◌+◌, ◌==◌, ◌≤◌, ◌<◌, ◌⊎◌, ◌&&◌, inl, inr, not, nat_le, nat_lt, if◌then◌else◌, Bool, true, false, List, [], ◌∷◌, ◌++◌, length, codes, Option, None, Some, option_map, Result, Ok, Err, ok_or, refl, sym, ◌∙◌, ap, subst, arith}
 use Rattle.std.proofs.lemmas.Bool.Decides.{nat_tests}
 use Rattle.wf_core.specs.Limits.{line_max, threads_max, backends_max, calls_max}
 use Rattle.wf_core.specs.Names.{is_text}
-use Rattle.path_walk.specs.declared.call.Call.{Call}
+use Rattle.trace_text.specs.declared.trace_call.TraceCall.{TraceCall}
 use Rattle.trace_text.specs.declared.refusal.Fault.{Fault}
 use Rattle.trace_text.specs.declared.refusal.Fault.TheVariants.{Header, BadArgument, DuplicateName, LineTooLong, MissingNewline, TooManyBackends, TooManyCalls, TooManyThreads}
 use Rattle.trace_text.specs.declared.refusal.Refusal.{Refusal}
 use Rattle.trace_text.specs.declared.trace.Mode.{Mode}
 use Rattle.trace_text.specs.Traces.{Traced, nothing, with_thread, with_backend, with_call, backend_line}
-use Rattle.trace_text.specs.Fields.{pieces_of, fields_of, is_skipped}
-use Rattle.trace_text.specs.Words.{Form, call_in, proxied_in, with_kind}
+use Rattle.trace_text.specs.Fields.{pieces_of, fields_of, is_skipped, is_label}
+use Rattle.trace_text.specs.Openings.{openings_of}
+use Rattle.trace_text.specs.Words.{Form, proxied_in, with_kind}
 use Rattle.trace_text.specs.Lines.{after_thread, after_backend, after_call, after_call_of, after_label, after_fields, after_line, call_behind}
 use Rattle.trace_text.specs.Grammar.{Says, SayAll, Reads, header, kind_word}
 use Rattle.trace_text.specs.Reading.{on_line, trace_on, on_header, trace_in, trace_at}
 use Rattle.trace_text.specs.Refusals.{refusal_at}
-use Rattle.trace_text.specs.Faults.{line_of, lines_from, declarations, first_fault_of, line_conditions, first_of, fault_behind, fault_in, first_fault}
-use Rattle.trace_text.proofs.Agreement.{declarations_of, Agrees}
+use Rattle.trace_text.specs.Faults.{line_of, lines_from, first_fault_of, line_conditions, first_of, fault_behind, fault_in, first_fault}
+use Rattle.trace_text.proofs.Agreement.{Agrees}
+use Rattle.trace_text.proofs.Followed.{Follows}
 use Rattle.trace_text.proofs.LineAgreement.{Tells, line_agrees, same}
 
 -- the pieces are lines and then nothing, and no line is faulty; or one is
@@ -31,7 +33,7 @@ onward mode number trace after line pieces met others (Ok final) w says none =
 onward mode number trace after line pieces met others (Err refusal) w says none = ap (λ (m : Option Fault). first_of number m others) none ∙ w
 
 more : (mode : Mode) (number : ℕ) (before : List (List ℕ)) (trace : Traced) (line next : List ℕ) (pieces : List (List ℕ)) (read : Result Traced Fault) (met : Option Fault) → Agrees read met (Tells mode before trace line)
-    → ((after : Traced) → declarations (before ++ line ∷ []) ≡ declarations_of after → Whole mode after (next ∷ pieces) (fault_behind mode (number + 1) (before ++ line ∷ []) (lines_from (next ∷ pieces))) (trace_on mode (number + 1) after (next ∷ pieces)))
+    → ((after : Traced) → Follows (before ++ line ∷ []) after → Whole mode after (next ∷ pieces) (fault_behind mode (number + 1) (before ++ line ∷ []) (lines_from (next ∷ pieces))) (trace_on mode (number + 1) after (next ∷ pieces)))
     → Whole mode trace (line ∷ next ∷ pieces) (first_of number met (fault_behind mode (number + 1) (before ++ line ∷ []) (lines_from (next ∷ pieces)))) (on_line number read (λ after. trace_on mode (number + 1) after (next ∷ pieces)))
 more mode number before trace line next pieces (Ok after) met a rest =
     onward mode number trace after line (next ∷ pieces) met (fault_behind mode (number + 1) (before ++ line ∷ []) (lines_from (next ∷ pieces))) (trace_on mode (number + 1) after (next ∷ pieces)) (rest after a.1.1) a.1.0 a.0
@@ -45,7 +47,7 @@ empty (byte ∷ rest) h = absurd (some (length rest) h)
     some : (n : ℕ) → (suc n == 0) ≡ true → ⊥
     some n h = grind (arith, nat_tests)
 
-pub fold_agrees : (mode : Mode) (number : ℕ) (before : List (List ℕ)) (trace : Traced) (piece : List ℕ) (pieces : List (List ℕ)) → declarations before ≡ declarations_of trace
+pub fold_agrees : (mode : Mode) (number : ℕ) (before : List (List ℕ)) (trace : Traced) (piece : List ℕ) (pieces : List (List ℕ)) → Follows before trace
     → Whole mode trace (piece ∷ pieces) (fault_behind mode number before (lines_from (piece ∷ pieces))) (trace_on mode number trace (piece ∷ pieces))
 fold_agrees mode number before trace rest [] e =
     elim (length rest == 0) as (λ b. ((length rest == 0) ≡ b) → Whole mode trace (rest ∷ []) (fault_behind mode number before (if b then [] else line_of rest false ∷ [])) (if b then Ok trace else Err (refusal_at number MissingNewline))) [
@@ -53,10 +55,13 @@ fold_agrees mode number before trace rest [] e =
       | false ↦ λ h. refl
     ] refl
 fold_agrees mode number before trace line (next ∷ pieces) e =
-    more mode number before trace line next pieces (after_line mode trace line) (first_fault_of (line_conditions mode (declarations before) (line_of line true))) (line_agrees mode before trace line e)
+    more mode number before trace line next pieces (after_line mode trace line) (first_fault_of (line_conditions mode before (line_of line true))) (line_agrees mode before trace line e)
     (λ after k. fold_agrees mode (number + 1) (before ++ line ∷ []) after next pieces k)
 
 -- with line 1
+
+follows_nothing : Follows [] (nothing 1)
+follows_nothing = record { declared = refl; found = λ name thread e. refl; unfound = λ name e. refl; past = λ thread h. refl }
 
 abbrev pub WholeTrace : Mode → List (List ℕ) → Option Refusal → Result Traced Refusal → Type 0
 WholeTrace mode pieces met (Ok final) = ((lines : List (List ℕ)) × (pieces ≡ (header ∷ lines) ++ [] ∷ []) × SayAll mode (nothing 1) lines final) × (met ≡ None)
@@ -82,7 +87,7 @@ whole_agrees mode (line ∷ next ∷ pieces) =
       | true ↦ refl
       | false ↦ elim (is_text line header) as (λ b. (is_text line header ≡ b) → WholeTrace mode (line ∷ next ∷ pieces)
           (first_of 1 (if not b then Some Header else None) met) (on_header (if b then None else Some Header) rest)) [
-            | true ↦ λ h. header_agrees mode line (next ∷ pieces) met rest (same line header h) (fold_agrees mode 2 [] (nothing 1) next pieces refl)
+            | true ↦ λ h. header_agrees mode line (next ∷ pieces) met rest (same line header h) (fold_agrees mode 2 [] (nothing 1) next pieces follows_nothing)
             | false ↦ λ h. refl
           ] refl
     ]
@@ -119,18 +124,19 @@ says_read mode before line after (short, inr (s, inl (name, f, label, free, room
     (ap (λ (b : Bool). after_thread before (if b then Some name else None)) label
     ∙ ap (λ (b : Bool). if b then Err DuplicateName else if nat_le threads_max (length before.threads) then Err TooManyThreads else Ok (with_thread before name)) free
     ∙ ap (λ (b : Bool). if b then Err TooManyThreads else Ok (with_thread before name)) (has_room (length before.threads) threads_max room) ∙ ap Ok (sym e))
-says_read mode before line after (short, inr (s, inr (inl (backend, f, label, free, room, e)))) =
+says_read mode before line after (short, inr (s, inr (inl (backend, f, kind, label, free, room, e)))) =
     fields_read mode before line after (codes "backend" ∷ backend.name ∷ kind_word backend.proxied ∷ []) short s f
-    (ap (λ (kind : Option Bool). after_backend before (with_kind backend.name kind)) (kind_read backend.proxied)
+    (ap (λ (kind : Option Bool). after_backend before (with_kind mode backend.name kind)) (kind_read backend.proxied)
+    ∙ ap (λ (b : Bool). after_backend before (if b && is_label backend.name then Some (backend_line backend.name backend.proxied) else None)) kind
     ∙ ap (λ (b : Bool). after_backend before (if b then Some (backend_line backend.name backend.proxied) else None)) label
     ∙ ap (λ (b : Bool). if b then Err DuplicateName else if nat_le backends_max (length before.backends + 1) then Err TooManyBackends else Ok (with_backend before backend)) free
     ∙ ap (λ (b : Bool). if b then Err TooManyBackends else Ok (with_backend before backend)) (has_room (length before.backends + 1) backends_max room) ∙ ap Ok (sym e))
 says_read mode before line after (short, inr (s, inr (inr (label, word, fields, f, name, l, thread, t, form, w, call, c, room, e)))) =
     fields_read mode before line after (label ∷ word ∷ fields) short s f
     (ap (λ (found : Option (List ℕ)). after_label mode before found label (word ∷ fields)) l
-    ∙ ap (λ (number : Option ℕ). after_call mode before number (word ∷ fields)) t
-    ∙ ap (λ (row : Option Form). after_call_of before thread (call_behind (option_map (λ f. call_in f fields) row))) w
-    ∙ ap (λ (made : Option Call). after_call_of before thread (ok_or made BadArgument)) c
+    ∙ ap (λ (number : Option ℕ). after_call before number (word ∷ fields)) t
+    ∙ ap (λ (row : Option Form). after_call_of before thread (call_behind (option_map (λ f. f (openings_of thread before.calls) fields) row))) w
+    ∙ ap (λ (made : Option TraceCall). after_call_of before thread (ok_or made BadArgument)) c
     ∙ ap (λ (b : Bool). if b then Err TooManyCalls else Ok (with_call before thread call)) (has_room (length before.calls) calls_max room) ∙ ap Ok (sym e))
 
 pub all_read : (mode : Mode) (number : ℕ) (before : Traced) (lines : List (List ℕ)) (after : Traced) → SayAll mode before lines after → trace_on mode number before (lines ++ [] ∷ []) ≡ Ok after

@@ -3,14 +3,15 @@ use Rattle.std.specs.Prelude.{ℕ, ◌+◌, ◌==◌, ◌||◌, not, nat_le, nat
 use Rattle.std.specs.List.{list_any, filter_map}
 use Rattle.wf_core.specs.Limits.{line_max, threads_max, backends_max, calls_max}
 use Rattle.wf_core.specs.Names.{is_text}
-use Rattle.path_walk.specs.declared.call.Call.{Call}
+use Rattle.trace_text.specs.declared.trace_call.TraceCall.{TraceCall}
 use Rattle.trace_text.specs.declared.refusal.Fault.{Fault}
 use Rattle.trace_text.specs.declared.refusal.Fault.TheVariants.{Header, UnknownWord, BadArgument, UnknownName, DuplicateName, LineTooLong, TooManyCalls, TooManyThreads, TooManyBackends, MissingNewline}
 use Rattle.trace_text.specs.declared.refusal.Refusal.{Refusal}
 use Rattle.trace_text.specs.declared.trace.BackendLine.{BackendLine}
 use Rattle.trace_text.specs.declared.trace.Mode.{Mode}
 use Rattle.trace_text.specs.Fields.{pieces_of, fields_of, is_skipped, label_in}
-use Rattle.trace_text.specs.Words.{Form, form_of, call_in, name_in, backend_in}
+use Rattle.trace_text.specs.Openings.{is_opening_word}
+use Rattle.trace_text.specs.Words.{Form, form_of, name_in, backend_in}
 use Rattle.trace_text.specs.Grammar.{header}
 use Rattle.trace_text.specs.Refusals.{refusal_at}
 
@@ -63,6 +64,19 @@ declarations before = record {
   calls = count_by (λ text. is_call (statement_of text)) before;
 }
 
+-- whether the statement is a call of the thread of that name, and then whether that is an opening call
+abbrev pub opening_behind : List ℕ → Option (List ℕ) → List ℕ → Option Bool
+opening_behind name None word = None
+opening_behind name (Some label) word = if is_text label name then Some (is_opening_word word) else None
+
+abbrev pub opening_in : List ℕ → List (List ℕ) → Option Bool
+opening_in name (first ∷ word ∷ fields) = opening_behind name (label_in first) word
+opening_in name fields = None
+
+-- which calls of the thread of that name are opening calls, in their order
+abbrev pub openings_by : List (List ℕ) → List ℕ → List Bool
+openings_by before name = filter_map (λ text. opening_in name (statement_of text)) before
+
 -- `main` is a name from the start
 abbrev pub has_name : Declarations → List ℕ → Bool
 has_name declarations name =
@@ -101,60 +115,60 @@ backend_name None = None
 backend_name (Some backend) = Some backend.name
 
 -- of `backend`
-abbrev pub backend_conditions : Declarations → List (List ℕ) → List Condition
-backend_conditions declarations fields =
-    fault_where BadArgument (is_none (backend_in fields))
-    ∷ fault_where DuplicateName (has_name_in declarations (backend_name (backend_in fields)))
+abbrev pub backend_conditions : Mode → Declarations → List (List ℕ) → List Condition
+backend_conditions mode declarations fields =
+    fault_where BadArgument (is_none (backend_in mode fields))
+    ∷ fault_where DuplicateName (has_name_in declarations (backend_name (backend_in mode fields)))
     ∷ fault_where TooManyBackends (nat_le backends_max (length declarations.backends + 1))
     ∷ []
 
 -- the form of the word in the fields behind a label, and the call that the fields make
-abbrev pub form_behind : Mode → List (List ℕ) → Option Form
-form_behind mode [] = None
-form_behind mode (word ∷ fields) = form_of mode word
+abbrev pub form_behind : List (List ℕ) → Option Form
+form_behind [] = None
+form_behind (word ∷ fields) = form_of word
 
-abbrev pub call_with_form : Option Form → List (List ℕ) → Option Call
-call_with_form None fields = None
-call_with_form (Some form) fields = call_in form fields
+abbrev pub call_with_form : List Bool → Option Form → List (List ℕ) → Option TraceCall
+call_with_form openings None fields = None
+call_with_form openings (Some form) fields = form openings fields
 
-abbrev pub call_behind_label : Mode → List (List ℕ) → Option Call
-call_behind_label mode [] = None
-call_behind_label mode (word ∷ fields) = call_with_form (form_of mode word) fields
+abbrev pub call_behind_label : List Bool → List (List ℕ) → Option TraceCall
+call_behind_label openings [] = None
+call_behind_label openings (word ∷ fields) = call_with_form openings (form_of word) fields
 
--- of a call of the thread of that name
-abbrev pub call_conditions : Mode → Declarations → List ℕ → List (List ℕ) → List Condition
-call_conditions mode declarations name fields =
+-- of a call of the thread of that name, where `openings` says which of its earlier calls are opening calls
+abbrev pub call_conditions : Declarations → List Bool → List ℕ → List (List ℕ) → List Condition
+call_conditions declarations openings name fields =
     fault_where UnknownName (is_none (position (λ thread. is_text thread name) declarations.threads))
-    ∷ fault_where UnknownWord (is_none (form_behind mode fields))
-    ∷ fault_where BadArgument (is_none (call_behind_label mode fields))
+    ∷ fault_where UnknownWord (is_none (form_behind fields))
+    ∷ fault_where BadArgument (is_none (call_behind_label openings fields))
     ∷ fault_where TooManyCalls (nat_le calls_max declarations.calls)
     ∷ []
 
-abbrev pub declaration_conditions : Declarations → List ℕ → List (List ℕ) → List Condition
-declaration_conditions declarations word fields =
+abbrev pub declaration_conditions : Mode → Declarations → List ℕ → List (List ℕ) → List Condition
+declaration_conditions mode declarations word fields =
     if is_text word (codes "thread") then thread_conditions declarations fields
-    else if is_text word (codes "backend") then backend_conditions declarations fields
+    else if is_text word (codes "backend") then backend_conditions mode declarations fields
     else fault_where UnknownWord true ∷ []
 
 -- by what the first field is
-abbrev pub label_conditions : Mode → Declarations → Option (List ℕ) → List ℕ → List (List ℕ) → List Condition
-label_conditions mode declarations (Some name) first fields = call_conditions mode declarations name fields
-label_conditions mode declarations None first fields = declaration_conditions declarations first fields
+abbrev pub label_conditions : Mode → Declarations → (List ℕ → List Bool) → Option (List ℕ) → List ℕ → List (List ℕ) → List Condition
+label_conditions mode declarations openings (Some name) first fields = call_conditions declarations (openings name) name fields
+label_conditions mode declarations openings None first fields = declaration_conditions mode declarations first fields
 
-abbrev pub field_conditions : Mode → Declarations → List (List ℕ) → List Condition
-field_conditions mode declarations [] = fault_where UnknownWord true ∷ []
-field_conditions mode declarations (first ∷ fields) = label_conditions mode declarations (label_in first) first fields
+abbrev pub field_conditions : Mode → Declarations → (List ℕ → List Bool) → List (List ℕ) → List Condition
+field_conditions mode declarations openings [] = fault_where UnknownWord true ∷ []
+field_conditions mode declarations openings (first ∷ fields) = label_conditions mode declarations openings (label_in first) first fields
 
 abbrev pub skipped_conditions : Bool → List Condition → List Condition
 skipped_conditions true conditions = []
 skipped_conditions false conditions = conditions
 
--- of a line after line 1
-abbrev pub line_conditions : Mode → Declarations → Line → List Condition
-line_conditions mode declarations line =
+-- of a line after line 1, behind the lines `before`
+abbrev pub line_conditions : Mode → List (List ℕ) → Line → List Condition
+line_conditions mode before line =
     fault_where MissingNewline (not line.ended)
     ∷ fault_where LineTooLong (nat_lt line_max (length line.text))
-    ∷ skipped_conditions (is_skipped line.text) (field_conditions mode declarations (fields_of line.text))
+    ∷ skipped_conditions (is_skipped line.text) (field_conditions mode (declarations before) (openings_by before) (fields_of line.text))
 
 -- of line 1
 abbrev pub header_conditions : Line → List Condition
@@ -172,7 +186,7 @@ first_of number (Some fault) others = Some (refusal_at number fault)
 abbrev pub fault_behind : Mode → ℕ → List (List ℕ) → List Line → Option Refusal
 fault_behind mode number before [] = None
 fault_behind mode number before (line ∷ lines) =
-    first_of number (first_fault_of (line_conditions mode (declarations before) line)) (fault_behind mode (number + 1) (before ++ line.text ∷ []) lines)
+    first_of number (first_fault_of (line_conditions mode before line)) (fault_behind mode (number + 1) (before ++ line.text ∷ []) lines)
 
 -- a text without a line is `Header` in line 1
 abbrev pub fault_in : Mode → List Line → Option Refusal

@@ -1,6 +1,7 @@
 -- The lines of a text, the fields of a line, and what fields stand for. The format is this project's own.
-use Rattle.std.specs.Prelude.{ℕ, ◌+◌, ◌-◌, ◌*◌, ◌/◌, ◌%◌, ◌==◌, ◌&&◌, ◌||◌, not, nat_le, nat_lt, if◌then◌else◌, Bool, true, false, List, [], ◌∷◌, length, take, codes, slice_index_or, Option, None, Some, option_map, option_and_then}
+use Rattle.std.specs.Prelude.{ℕ, zero, suc, ℤ, pos, negsuc, ◌+◌, ◌-◌, ◌*◌, ◌/◌, ◌%◌, ◌==◌, ◌&&◌, ◌||◌, not, nat_le, nat_lt, if◌then◌else◌, Bool, true, false, List, [], ◌∷◌, length, take, codes, slice_index_or, Option, None, Some, option_map, option_and_then}
 use Rattle.std.specs.List.{list_all, slice_split, flat_map}
+use Rattle.wf_core.specs.Limits.{offset_max}
 use Rattle.wf_core.specs.Names.{is_text, has_no_nul}
 
 -- what stands between bytes 10, before the first and after the last of them too
@@ -30,6 +31,11 @@ one_of fields = None
 abbrev pub two_of : List (List ℕ) → Option (List ℕ × List ℕ)
 two_of (first ∷ second ∷ []) = Some (first, second)
 two_of fields = None
+
+-- the three fields, where there are no more
+abbrev pub three_of : List (List ℕ) → Option (List ℕ × (List ℕ × List ℕ))
+three_of (first ∷ second ∷ third ∷ []) = Some (first, (second, third))
+three_of fields = None
 
 -- an empty line, or a comment
 abbrev pub is_skipped : List ℕ → Bool
@@ -127,9 +133,9 @@ text_field (byte ∷ bytes) = flat_map byte_field (byte ∷ bytes)
 
 -- Numbers.
 
--- the greatest START
-abbrev pub start_max : ℕ
-start_max = 4294967295
+-- the greatest COUNT, START and FD
+abbrev pub number_max : ℕ
+number_max = 4294967295
 
 -- the number that digits write behind those of `value`
 abbrev pub value_on : ℕ → List ℕ → Option ℕ
@@ -147,8 +153,29 @@ has_leading_zero [] = false
 has_leading_zero (byte ∷ []) = false
 has_leading_zero (byte ∷ next ∷ field) = byte == 48
 
--- a START: a decimal number without leading zeros
-abbrev pub start_in : List ℕ → Option ℕ
-start_in field =
+-- a decimal number without leading zeros, up to `limit`
+abbrev pub number_in : ℕ → List ℕ → Option ℕ
+number_in limit field =
     if length field == 0 || has_leading_zero field then None
-    else at_most start_max (value_on 0 field)
+    else at_most limit (value_on 0 field)
+
+-- what stands behind `-`, which is no 0
+abbrev pub negative_of : Option ℕ → Option ℤ
+negative_of None = None
+negative_of (Some zero) = None
+negative_of (Some (suc n)) = Some (negsuc n)
+
+-- a number that may begin with `-`, from `-limit` to `limit`
+abbrev pub signed_in : ℕ → List ℕ → Option ℤ
+signed_in limit [] = None
+signed_in limit (byte ∷ field) =
+    if byte == 45 then negative_of (number_in limit field)
+    else option_map pos (number_in limit (byte ∷ field))
+
+-- a COUNT, a START or an FD that is a number
+abbrev pub count_in : List ℕ → Option ℕ
+count_in field = number_in number_max field
+
+-- an OFFSET or a SIZE
+abbrev pub offset_in : List ℕ → Option ℤ
+offset_in field = signed_in offset_max field

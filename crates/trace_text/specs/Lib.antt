@@ -1,11 +1,14 @@
 pub mod Traces
 pub mod Refusals
 pub mod Fields
+pub mod TraceCalls
+pub mod Openings
 pub mod Words
 pub mod Lines
 pub mod Grammar
 pub mod Reading
 pub mod Texts
+pub mod TraceTexts
 pub mod SoloText
 pub mod Faults
 pub mod Spelling

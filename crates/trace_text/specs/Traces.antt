@@ -1,9 +1,9 @@
 -- What a trace says, apart from where it lies in memory.
-use Rattle.std.specs.Prelude.{◌≡◌, ℕ, ◌+◌, ◌==◌, ◌<◌, ◌≤◌, ◌||◌, Bool, List, [], ◌∷◌, ◌++◌, length, count_by, codes, position, slice_index_or, Option}
+use Rattle.std.specs.Prelude.{◌≡◌, ℕ, ◌+◌, ◌==◌, ◌<◌, ◌≤◌, ◌||◌, Bool, List, [], ◌∷◌, ◌++◌, length, count_by, codes, position, slice_index_or, slice_get, unwrap_or, Option}
 use Rattle.std.specs.List.{list_any}
 use Rattle.wf_core.specs.Limits.{threads_max, calls_max}
 use Rattle.wf_core.specs.Names.{is_text}
-use Rattle.path_walk.specs.declared.call.Call.{Call}
+use Rattle.trace_text.specs.declared.trace_call.TraceCall.{TraceCall}
 use Rattle.trace_text.specs.declared.trace.CallLine.{CallLine}
 use Rattle.trace_text.specs.declared.trace.BackendLine.{BackendLine}
 use Rattle.trace_text.specs.declared.trace.Trace.{Trace}
@@ -33,6 +33,10 @@ is_declared trace name =
 abbrev pub thread_number : Traced → List ℕ → Option ℕ
 thread_number trace name = position (λ thread. is_text thread name) trace.threads
 
+-- the name of a thread by its number
+abbrev pub thread_name : List (List ℕ) → ℕ → List ℕ
+thread_name threads number = unwrap_or (slice_get threads number) []
+
 -- how many of the calls a thread makes
 abbrev pub calls_of : ℕ → List CallLine → ℕ
 calls_of thread calls = count_by (λ line. line.thread == thread) calls
@@ -49,10 +53,10 @@ abbrev pub with_backend : Traced → BackendLine → Traced
 with_backend trace backend = record trace { backends = trace.backends ++ backend ∷ [] }
 
 -- the next call of a thread, counted from 1
-abbrev pub next_call : Traced → ℕ → Call → CallLine
+abbrev pub next_call : Traced → ℕ → TraceCall → CallLine
 next_call trace thread call = record { thread = thread; number = calls_of thread trace.calls + 1; call = call }
 
-abbrev pub with_call : Traced → ℕ → Call → Traced
+abbrev pub with_call : Traced → ℕ → TraceCall → Traced
 with_call trace thread call = record trace { calls = trace.calls ++ next_call trace thread call ∷ [] }
 
 -- how many calls each thread has so far

@@ -1,13 +1,10 @@
-ghost use Rattle.std.specs.Prelude.{◌≡◌, ◌∷◌, ◌==◌, ◌<◌, length, position, option_map, [], IfNone, IfSome, MatchOption};
+ghost use Rattle.std.specs.Prelude.{◌≡◌, ◌∷◌, ◌+◌, ◌*◌, Some, ◌==◌, ◌<◌, ◌^◌, length, position, option_map, [], IfNone, IfSome, MatchOption};
 ghost use Rattle.std.specs.List.{list_all, slice_split};
 ghost use Rattle.std.specs.Option.{option_copied};
-ghost use Rattle.trace_text.specs.Fields.{fields_in, has_leading_zero, is_label, is_label_byte, is_skipped, label_in, one_of, pieces_behind, pieces_of, start_in, two_of};
+ghost use Rattle.trace_text.specs.Fields.{at_most, fields_in, negative_of, has_leading_zero, is_label, is_label_byte, is_skipped, label_in, number_in, one_of, pieces_behind, pieces_of, signed_in, three_of, two_of};
 
 /// The most bytes of the name of a thread or a backend.
 const LABEL_MAX: usize = 16;
-
-/// The greatest position that `list` starts at.
-const START_MAX: u64 = 4_294_967_295;
 
 fn place_of(text: &[u8], byte: u8) -> Option<usize>
     ensures { result ≡ position (λ b. b == byte) text.now }
@@ -62,6 +59,16 @@ pub(crate) fn two_of(text: Option<&[u8]>) -> Option<(&[u8], &[u8])>
     Some((first, second))
 }
 
+/// The three fields that a text is, where it has two spaces.
+pub(crate) fn three_of(text: Option<&[u8]>) -> Option<(&[u8], &[u8], &[u8])>
+    ensures { option_map (λ x. (x.0.now, (x.1.now, x.2.now))) result
+        ≡ three_of (fields_in (option_copied text.entry)) }
+{
+    let (first, rest) = cut(text?, b' ');
+    let (second, third) = two_of(rest)?;
+    Some((first, second, third))
+}
+
 /// Whether a line is empty or a comment.
 pub(crate) fn is_skipped(line: &[u8]) -> bool
     ensures { result ≡ is_skipped line.now }
@@ -90,8 +97,8 @@ fn has_label_bytes(field: &[u8]) -> bool
         .all(|byte| byte.is_ascii_alphanumeric() || *byte == b'_')
 }
 
-/// Whether the field is spelled as a thread's or a backend's name.
-pub(crate) fn is_name(field: &[u8]) -> bool
+/// Whether the field is spelled as the name of a thread or a backend: 1 to 16 letters, digits and `_`, of ASCII.
+pub fn is_name(field: &[u8]) -> bool
     ensures { result ≡ is_label field.now }
 {
     !field.is_empty() && field.len() <= LABEL_MAX && has_label_bytes(field)
@@ -107,22 +114,53 @@ fn has_leading_zero(field: &[u8]) -> bool
     }
 }
 
-/// The position that a field spells: a decimal number without leading zeros.
-pub(crate) fn start_in(field: &[u8]) -> Option<u32>
-    ensures { result ≡ start_in field.now }
+/// The number that the field is: decimal, without leading zeros, at most `limit`.
+pub fn read_number(field: &[u8], limit: u64) -> Option<u64>
+    ensures { result ≡ number_in limit field.now }
 {
     if field.is_empty() || has_leading_zero(field) {
         return None;
     }
-    let mut value = 0;
+    let mut value: u64 = 0;
     for byte in field {
         if !byte.is_ascii_digit() {
             return None;
         }
-        value = 10 * value + u64::from(*byte - b'0');
-        if value > START_MAX {
-            return None;
-        }
+        let digit = u64::from(*byte - b'0');
+        value = next_value(value, digit, limit)?;
     }
-    Some(value as u32)
+    Some(value)
+}
+
+/// The number with one digit more behind it, where it is at most `limit`.
+fn next_value(value: u64, digit: u64, limit: u64) -> Option<u64>
+    ensures { result ≡ at_most limit (Some (10 * value + digit)) }
+{
+    let value = value.checked_mul(10)?.checked_add(digit)?;
+    if value > limit {
+        return None;
+    }
+    Some(value)
+}
+
+/// The number that the field is: decimal, without leading zeros, from `-limit` to `limit`. `-0` is none.
+pub fn read_signed(field: &[u8], limit: u64) -> Option<i64>
+    requires { limit < 2 ^ 63 }
+    ensures { result ≡ signed_in limit field.now }
+{
+    match field {
+        [] => None,
+        [b'-', digits @ ..] => negative(read_number(digits, limit)?),
+        _ => Some(read_number(field, limit)? as i64),
+    }
+}
+
+fn negative(value: u64) -> Option<i64>
+    requires { value < 2 ^ 63 }
+    ensures { result ≡ negative_of (Some value) }
+{
+    if value == 0 {
+        return None;
+    }
+    Some(-(value as i64))
 }

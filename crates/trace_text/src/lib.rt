@@ -1,18 +1,33 @@
-//! The texts of a run: the trace that is read, and the replies and the tree that are printed.
+//! The texts of a run: the trace that is read and printed, and the replies and the tree that are printed.
 #![tactic(auto)]
 
+pub use field::{is_name, read_number, read_signed};
 pub use laws::{faults_come_first, fields_are_texts, reads_or_refuses};
-pub use print::{push_end_line, push_reply_line, push_tree_line, refusal_line};
+pub use print::{print_text, push_end_line, refusal_line};
 pub use read::read_trace;
 pub use refusal::{Fault, Refusal, TraceRefusal};
+pub use reply_line::push_reply_line;
+pub use text_field::{FieldRefusal, read_text};
 pub use trace::{BackendLine, CallLine, Mode, Trace};
+pub use trace_call::{DataCall, Descriptor, NO_NUMBER, TraceCall, number_in_reply};
+pub use trace_lines::print_trace;
+pub use tree_line::push_tree_line;
 
 mod call;
+mod call_field;
+mod descriptor_call;
 mod field;
 mod laws;
+mod open_flags;
+mod openings;
+mod path_call;
 mod print;
 mod read;
 mod reader;
 mod refusal;
+mod reply_line;
 mod text_field;
 mod trace;
+mod trace_call;
+mod trace_lines;
+mod tree_line;

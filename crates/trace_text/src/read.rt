@@ -53,7 +53,7 @@ fn header_fault(line: &[u8]) -> Option<Fault>
 fn read_lines(alloc: Global, bytes: &[u8], mode: Mode) -> Result<Trace, TraceRefusal>
     ensures { GivesTrace traced result (trace_on mode 2 (nothing 1) (pieces_of bytes.now)) }
 {
-    let mut reader = Reader::new(alloc, 1);
+    let mut reader = Reader::new(alloc, 1)?;
     let mut number = 2;
     let mut rest = bytes;
     while let Some((line, left)) = first_line(rest) {

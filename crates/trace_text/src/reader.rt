@@ -1,19 +1,22 @@
-ghost use Rattle.std.specs.Prelude.{◌≡◌, ◌+◌, ◌<◌, length, option_map, position, IfOk, IfSome, OnOk, Ok};
+ghost use Rattle.std.specs.Prelude.{◌≡◌, ◌+◌, ◌<◌, ◌++◌, ◌∷◌, [], length, option_map, position, IfOk, IfSome, OnOk, Ok};
 ghost use Rattle.std.specs.List.{list_any};
+ghost use Rattle.std.specs.Vec.{vec_capacity, vec_len};
 ghost use Rattle.std.specs.Option.{option_copied};
 ghost use Rattle.wf_core.specs.Limits.{calls_max, threads_max};
 ghost use Rattle.wf_core.specs.Names.{is_text};
 ghost use Rattle.trace_text.specs.Traces.{backend_line, is_declared, nothing, thread_number, traced, with_call};
 ghost use Rattle.trace_text.specs.Fields.{fields_in};
 ghost use Rattle.trace_text.specs.Lines.{after_backend, after_call, after_call_of, after_declaration, after_line, after_thread};
-ghost use Rattle.trace_text.specs.Words.{backend_in, name_in, proxied_in};
+ghost use Rattle.trace_text.specs.Words.{backend_in, has_kind, name_in, proxied_in};
+ghost use Rattle.trace_text.specs.Openings.{openings_of};
 ghost use Rattle.trace_text.specs.Reading.{Adds};
 
 use crate::call::call_of;
 use crate::field::{cut, is_name, is_skipped, label_in, one_of, two_of};
+use crate::openings::{Openings, is_opening};
 use crate::refusal::Fault;
 use crate::trace::{BackendLine, CallLine, Mode, Trace};
-use path_walk::Call;
+use crate::trace_call::TraceCall;
 use std::alloc::{AllocError, Global};
 use std::marker::Model;
 use wf_core::{BACKENDS_MAX, CALLS_MAX, LINE_MAX, THREADS_MAX, Text};
@@ -39,14 +42,23 @@ fn proxied_in(kind: &[u8]) -> Option<bool>
     None
 }
 
+fn has_kind(mode: Mode, proxied: bool) -> bool
+    ensures { result ≡ has_kind mode proxied }
+{
+    match mode {
+        Mode::Plain => true,
+        Mode::Full => !proxied,
+    }
+}
+
 /// The name and the kind that the fields behind `backend` are.
-fn backend_in(fields: Option<&[u8]>) -> Option<(&[u8], bool)>
+fn backend_in(mode: Mode, fields: Option<&[u8]>) -> Option<(&[u8], bool)>
     ensures { option_map (λ x. backend_line x.0.now x.1) result
-        ≡ backend_in (fields_in (option_copied fields.entry)) }
+        ≡ backend_in mode (fields_in (option_copied fields.entry)) }
 {
     let (name, kind) = two_of(fields)?;
     let proxied = proxied_in(kind)?;
-    if is_name(name) {
+    if has_kind(mode, proxied) && is_name(name) {
         Some((name, proxied))
     } else {
         None
@@ -74,30 +86,44 @@ fn position_of(threads: &[Text], name: &[u8]) -> Option<usize>
     threads.iter().position(|thread| thread.as_bytes() == name)
 }
 
+/// Adds a call for which there is room.
+fn push_line(calls: &mut Vec<CallLine>, line: CallLine)
+    requires { vec_len calls.old < vec_capacity calls.old }
+    ensures { calls.new.items ≡ calls.old.items ++ line ∷ [] }
+{
+    if calls.push(line).is_err() {
+        unreachable!()
+    }
+}
+
 /// A trace that is read line by line, seen as what its lines so far say.
 #[derive(Drop)]
 pub(crate) struct Reader {
     trace: Trace,
     /// How many calls each thread has.
     counts: [u32; THREADS_MAX],
+    /// Which calls of each thread are opening calls.
+    openings: Openings,
 }
 
 impl Model for Reader {
     ghost use Rattle.trace_text.specs.Traces.{AreCounts, Traced, traced};
+    ghost use Rattle.trace_text.specs.Openings.{AreOpenings};
 
     ghost Value = { Traced };
 
     ghost view = { λ r. traced r.trace };
 
-    ghost invariant = { λ r. AreCounts (traced r.trace) r.counts };
+    ghost invariant = { λ r. AreCounts (traced r.trace) r.counts
+        × AreOpenings (traced r.trace).calls r.openings };
 }
 
 impl Reader {
     /// A trace without declarations.
-    pub(crate) fn new(alloc: Global, version: u32) -> Reader
-        ensures { result ≡ nothing version }
+    pub(crate) fn new(alloc: Global, version: u32) -> Result<Reader, AllocError>
+        ensures { IfOk result (λ reader. reader ≡ nothing version) }
     {
-        Reader {
+        Ok(Reader {
             trace: Trace {
                 version,
                 threads: Vec::new(alloc),
@@ -105,7 +131,8 @@ impl Reader {
                 calls: Vec::new(alloc),
             },
             counts: [0; THREADS_MAX],
-        }
+            openings: Openings::new(alloc)?,
+        })
     }
 
     pub(crate) fn into_trace(self) -> Trace
@@ -155,12 +182,13 @@ impl Reader {
     fn read_backend(
         &mut self,
         alloc: Global,
+        mode: Mode,
         fields: Option<&[u8]>,
     ) -> Result<Result<(), Fault>, AllocError>
         ensures { IfOk result (λ read. Adds (after_backend self.old
-            (backend_in (fields_in (option_copied fields.entry)))) read self.new) }
+            (backend_in mode (fields_in (option_copied fields.entry)))) read self.new) }
     {
-        let Some((name, proxied)) = backend_in(fields) else {
+        let Some((name, proxied)) = backend_in(mode, fields) else {
             return Ok(Err(Fault::BadArgument));
         };
         if self.is_declared(name) {
@@ -175,17 +203,20 @@ impl Reader {
     }
 
     /// Adds the next call of a thread.
-    fn add_call(&mut self, thread: usize, call: Call) -> Result<(), AllocError>
+    fn add_call(&mut self, thread: usize, call: TraceCall) -> Result<(), AllocError>
         requires thread { thread < threads_max }
         requires room { length self.old.calls < calls_max }
         ensures { OnOk result (self.new ≡ with_call self.old thread call) }
     {
         let number = self.counts[thread] + 1;
-        self.trace.calls.push(CallLine {
+        self.trace.calls.reserve(1)?;
+        self.openings.push(thread, is_opening(&call))?;
+        let line = CallLine {
             thread: thread as u32,
             number,
             call,
-        })?;
+        };
+        push_line(&mut self.trace.calls, line);
         self.counts[thread] = number;
         Ok(())
     }
@@ -194,7 +225,7 @@ impl Reader {
     fn read_call_of(
         &mut self,
         thread: usize,
-        call: Result<Call, Fault>,
+        call: Result<TraceCall, Fault>,
     ) -> Result<Result<(), Fault>, AllocError>
         requires { thread < threads_max }
         ensures { IfOk result
@@ -209,7 +240,7 @@ impl Reader {
     fn add_call_if_room(
         &mut self,
         thread: usize,
-        call: Call,
+        call: TraceCall,
     ) -> Result<Result<(), Fault>, AllocError>
         requires { thread < threads_max }
         ensures { IfOk result
@@ -226,18 +257,17 @@ impl Reader {
     fn read_call(
         &mut self,
         alloc: Global,
-        mode: Mode,
         name: &[u8],
         fields: Option<&[u8]>,
     ) -> Result<Result<(), Fault>, AllocError>
-        ensures { IfOk result (λ read. Adds (after_call mode self.old
+        ensures { IfOk result (λ read. Adds (after_call self.old
             (thread_number self.old name.now) (fields_in (option_copied fields.entry)))
             read self.new) }
     {
         let Some(thread) = self.thread_number(name) else {
             return Ok(Err(Fault::UnknownName));
         };
-        let call = call_of(alloc, mode, fields)?;
+        let call = call_of(alloc, self.openings.of(thread), fields)?;
         self.read_call_of(thread, call)
     }
 
@@ -245,17 +275,18 @@ impl Reader {
     fn read_declaration(
         &mut self,
         alloc: Global,
+        mode: Mode,
         word: &[u8],
         fields: Option<&[u8]>,
     ) -> Result<Result<(), Fault>, AllocError>
-        ensures { IfOk result (λ read. Adds (after_declaration self.old word.now
+        ensures { IfOk result (λ read. Adds (after_declaration mode self.old word.now
             (fields_in (option_copied fields.entry))) read self.new) }
     {
         if word == b"thread".as_slice() {
             return self.read_thread(alloc, fields);
         }
         if word == b"backend".as_slice() {
-            return self.read_backend(alloc, fields);
+            return self.read_backend(alloc, mode, fields);
         }
         Ok(Err(Fault::UnknownWord))
     }
@@ -278,8 +309,8 @@ impl Reader {
         }
         let (first, fields) = cut(line, b' ');
         match label_in(first) {
-            Some(name) => self.read_call(alloc, mode, name, fields),
-            None => self.read_declaration(alloc, first, fields),
+            Some(name) => self.read_call(alloc, name, fields),
+            None => self.read_declaration(alloc, mode, first, fields),
         }
     }
 }

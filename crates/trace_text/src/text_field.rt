@@ -1,9 +1,19 @@
-ghost use Rattle.std.specs.Prelude.{◌≡◌, ◌<◌, ◌≢◌, IfOk, IfSome, Some, length, option_map};
+ghost use Rattle.std.specs.Prelude.{◌≡◌, ◌<◌, ◌≢◌, IfErr, IfOk, IfSome, IsErrOf, None, Some, length, option_map};
 ghost use Rattle.std.specs.List.{list_all};
 ghost use Rattle.trace_text.specs.Fields.{bytes_in, escape_value, first_in, hex_value, is_plain, path_in, text_in, unless_nul};
 
 use std::alloc::{AllocError, Global};
-use wf_core::{PathRefusal, PathText};
+use wf_core::{PathRefusal, PathText, Text};
+
+/// Why a text field was not read.
+#[derive(Clone, Copy, Debug, PartialEq, Eq, thiserror::Error)]
+pub enum FieldRefusal {
+    /// The field is empty, or holds a byte that stands neither for itself nor in an escape.
+    #[error("the field is no text field")]
+    NotAText,
+    #[error("out of memory")]
+    NoMemory,
+}
 
 /// Whether a byte of a text field stands for itself.
 pub(crate) fn is_plain(byte: u8) -> bool
@@ -81,6 +91,28 @@ fn text_in(alloc: Global, field: &[u8]) -> Result<Option<Vec<u8>>, AllocError>
         return Ok(None);
     }
     bytes_in(alloc, field)
+}
+
+/// Reads a text field: what it stands for.
+pub fn read_text(alloc: Global, field: &[u8]) -> Result<Vec<u8>, FieldRefusal>
+    ensures ok { IfOk result (λ text. text_in field.now ≡ Some text.items) }
+    ensures refused { IsErrOf result FieldRefusal.NotAText → text_in field.now ≡ None }
+{
+    match text_in(alloc, field) {
+        Ok(Some(text)) => Ok(text),
+        Ok(None) => Err(FieldRefusal::NotAText),
+        Err(_) => Err(FieldRefusal::NoMemory),
+    }
+}
+
+/// The bytes that a field stands for.
+pub(crate) fn bytes_of(alloc: Global, field: &[u8]) -> Result<Option<Text>, AllocError>
+    ensures { IfOk result (λ text. text ≡ text_in field.now) }
+{
+    match text_in(alloc, field)? {
+        Some(text) => Ok(Some(Text::new(text))),
+        None => Ok(None),
+    }
 }
 
 /// The path that bytes are, where none of them is 0.

@@ -1,11 +1,13 @@
-use path_walk::Call;
+use crate::trace_call::TraceCall;
 use wf_core::Text;
 
 /// Which lines a trace may have.
 #[derive(Clone, Copy, Debug, PartialEq, Eq)]
 pub enum Mode {
-    /// Those of file calls alone.
+    /// Declarations and file calls.
     Plain,
+    /// The same, but for the backends with a worker.
+    Full,
 }
 
 /// A trace that was read, with its declarations and its calls in their order.
@@ -35,5 +37,5 @@ pub struct CallLine {
     pub thread: u32,
     /// Its number among the calls of that thread, counted from 1.
     pub number: u32,
-    pub call: Call,
+    pub call: TraceCall,
 }

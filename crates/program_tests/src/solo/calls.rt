@@ -6,12 +6,15 @@ use std::process::Abort;
 use std::test::Fail;
 use wf_core::RunStatus;
 
+mod contents;
+mod descriptors;
 mod ends;
 mod entries;
 mod limits;
 mod links;
 mod mounts;
 mod moves;
+mod opens;
 
 /// The lines of a run, and the reply lines that are due.
 #[derive(Drop)]
@@ -54,7 +57,12 @@ impl Script {
 
 /// Runs calls behind declarations, and compares the reply to each. A line of the table is a call, ` = ` and the reply, or a
 /// remark behind `#`.
-fn expect(rt: &impl Abort, alloc: Global, declarations: &str, table: &str) -> Result<(), Fail> {
+pub(super) fn expect(
+    rt: &impl Abort,
+    alloc: Global,
+    declarations: &str,
+    table: &str,
+) -> Result<(), Fail> {
     let mut script = Script::new(alloc, declarations)?;
     for line in table.lines() {
         if !line.is_empty() && !line.starts_with('#') {

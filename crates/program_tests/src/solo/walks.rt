@@ -1,4 +1,6 @@
-use super::{repeated, run_on};
+use super::calls::expect;
+use super::run_on;
+use crate::repeated;
 use std::alloc::{AllocError, Global};
 use std::process::Abort;
 use std::test::Fail;
@@ -24,95 +26,66 @@ fn replies(
     Ok(())
 }
 
-fn stats(rt: &impl Abort, alloc: Global) -> Result<(), AllocError> {
-    let cases = [
-        ("/", "ok dir"),
-        ("//", "ok dir"),
-        ("///", "ok dir"),
-        ("/.", "ok dir"),
-        ("/..", "ok dir"),
-        ("/../..", "ok dir"),
-        ("/a", "ok dir"),
-        ("/a/", "ok dir"),
-        ("//a", "ok dir"),
-        ("/a//b", "ok dir"),
-        ("/a/b/", "ok dir"),
-        ("/a/b/..", "ok dir"),
-        ("/a/b/../b", "ok dir"),
-        ("/a/../a/b", "ok dir"),
-        ("/a/b/../../..", "ok dir"),
-        ("/./..//a/", "ok dir"),
-        ("a", "ok dir"),
-        (".", "ok dir"),
-        ("..", "ok dir"),
-        ("/b", "ENOENT"),
-        ("/a/a", "ENOENT"),
-        ("/a/c/..", "ENOENT"),
-        ("/a/b/c/d", "ENOENT"),
-        ("/...", "ENOENT"),
-        ("/.a", "ENOENT"),
-    ];
-    for (path, reply) in cases {
-        replies(
-            rt,
-            alloc,
-            format!(in alloc; "stat {path}")?.as_str(),
-            reply,
-            TREE,
-        )?;
-    }
-    Ok(())
-}
+const STATS: &str = "
+mkdir /a = ok
+mkdir /a/b = ok
+stat / = ok dir
+stat // = ok dir
+stat /// = ok dir
+stat /. = ok dir
+stat /.. = ok dir
+stat /../.. = ok dir
+stat /a = ok dir
+stat /a/ = ok dir
+stat //a = ok dir
+stat /a//b = ok dir
+stat /a/b/ = ok dir
+stat /a/b/.. = ok dir
+stat /a/b/../b = ok dir
+stat /a/../a/b = ok dir
+stat /a/b/../../.. = ok dir
+stat /./..//a/ = ok dir
+stat a = ok dir
+stat . = ok dir
+stat .. = ok dir
+stat /b = ENOENT
+stat /a/a = ENOENT
+stat /a/c/.. = ENOENT
+stat /a/b/c/d = ENOENT
+stat /... = ENOENT
+stat /.a = ENOENT
+";
 
-fn mkdirs(rt: &impl Abort, alloc: Global) -> Result<(), AllocError> {
-    let cases = [
-        ("/", "EEXIST"),
-        ("//", "EEXIST"),
-        ("/.", "EEXIST"),
-        ("/..", "EEXIST"),
-        ("/a", "EEXIST"),
-        ("/a/", "EEXIST"),
-        ("/a/.", "EEXIST"),
-        ("/a/..", "EEXIST"),
-        ("/a/b/../b", "EEXIST"),
-        ("/c/.", "ENOENT"),
-        ("/c/..", "ENOENT"),
-        ("/c/d", "ENOENT"),
-        ("/c/../a", "ENOENT"),
-    ];
-    for (path, reply) in cases {
-        replies(
-            rt,
-            alloc,
-            format!(in alloc; "mkdir {path}")?.as_str(),
-            reply,
-            TREE,
-        )?;
-    }
-    Ok(())
-}
-
-fn made(rt: &impl Abort, alloc: Global) -> Result<(), AllocError> {
-    let cases = [
-        ("/c", "dir 0 /\ndir 1 a\ndir 2 b\ndir 1 c\n"),
-        ("/c/", "dir 0 /\ndir 1 a\ndir 2 b\ndir 1 c\n"),
-        ("//a/./c//", "dir 0 /\ndir 1 a\ndir 2 b\ndir 2 c\n"),
-        ("/a/b/../a", "dir 0 /\ndir 1 a\ndir 2 a\ndir 2 b\n"),
-        ("/a/b/../../../B", "dir 0 /\ndir 1 B\ndir 1 a\ndir 2 b\n"),
-        ("...", "dir 0 /\ndir 1 ...\ndir 1 a\ndir 2 b\n"),
-        ("/a/b/c", "dir 0 /\ndir 1 a\ndir 2 b\ndir 3 c\n"),
-    ];
-    for (path, tree) in cases {
-        replies(
-            rt,
-            alloc,
-            format!(in alloc; "mkdir {path}")?.as_str(),
-            "ok",
-            tree,
-        )?;
-    }
-    Ok(())
-}
+const MKDIRS: &str = "
+mkdir /a = ok
+mkdir /a/b = ok
+mkdir / = EEXIST
+mkdir // = EEXIST
+mkdir /. = EEXIST
+mkdir /.. = EEXIST
+mkdir /a = EEXIST
+mkdir /a/ = EEXIST
+mkdir /a/. = EEXIST
+mkdir /a/.. = EEXIST
+mkdir /a/b/../b = EEXIST
+mkdir /c/. = ENOENT
+mkdir /c/.. = ENOENT
+mkdir /c/d = ENOENT
+mkdir /c/../a = ENOENT
+list / 0 = ok a
+mkdir /c/ = ok
+list / 0 = ok a c
+mkdir //a/./c// = ok
+list /a 0 = ok b c
+mkdir /a/b/../a = ok
+list /a 0 = ok a b c
+mkdir /a/b/../../../B = ok
+list / 0 = ok B a c
+mkdir ... = ok
+list / 0 = ok ... B a c
+mkdir /a/b/c = ok
+list /a/b 0 = ok c
+";
 
 fn limits(rt: &impl Abort, alloc: Global) -> Result<(), AllocError> {
     let cases = [
@@ -183,11 +156,14 @@ fn long_made(rt: &impl Abort, alloc: Global) -> Result<(), AllocError> {
 }
 
 #[test]
-fn paths(rt: HostRuntime) -> Result<(), Fail> {
-    stats(&rt, rt.alloc())?;
-    mkdirs(&rt, rt.alloc())?;
-    made(&rt, rt.alloc())?;
+fn lengths_of_paths(rt: HostRuntime) -> Result<(), Fail> {
     limits(&rt, rt.alloc())?;
     long_made(&rt, rt.alloc())?;
     Ok(())
+}
+
+#[test]
+fn spellings_of_paths(rt: HostRuntime) -> Result<(), Fail> {
+    expect(&rt, rt.alloc(), "", STATS)?;
+    expect(&rt, rt.alloc(), "", MKDIRS)
 }

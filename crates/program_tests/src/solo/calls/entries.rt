@@ -68,6 +68,63 @@ list /l 0 = ok
 list /a:b/../l/../A/.. 5 = ok l %7F
 ";
 
+/// Files among the entries of directories.
+const FILES: &str = "
+open /f w,creat = ok 0
+write 0 abc = ok 3
+stat /f = ok file 3
+lstat /f = ok file 3
+stat /f/ = ENOTDIR
+lstat /f/ = ENOTDIR
+stat /f/. = ENOTDIR
+stat /f/x = ENOTDIR
+readlink /f = EINVAL
+readlink /f/ = ENOTDIR
+list /f 0 = ENOTDIR
+list /f/ 0 = ENOTDIR
+mkdir /f = EEXIST
+mkdir /f/ = EEXIST
+mkdir /f/x = ENOTDIR
+symlink t /f = EEXIST
+symlink t /f/ = ENOENT
+rmdir /f = ENOTDIR
+rmdir /f/ = ENOTDIR
+unlink /f/ = ENOTDIR
+unlink /f/. = ENOTDIR
+symlink f /l = ok
+stat /l = ok file 3
+lstat /l = ok link 1
+stat /l/ = ENOTDIR
+lstat /l/ = ENOTDIR
+unlink /l/ = ENOTDIR
+mkdir /d = ok
+# A move within a directory, into another, over a link and over a file.
+rename /f /g = ok
+stat /l = ENOENT
+rename /g /d/f = ok
+rename /d/f /d/f = ok
+rename /d/f/ /d/x = ENOTDIR
+rename /d/f /d/x/ = ENOTDIR
+rename /d/f /d = EISDIR
+rename /d /d/f = EINVAL
+mkdir /e = ok
+rename /e /d/f = ENOTDIR
+rename /e/ /d/f = ENOTDIR
+rename /d/f /e/ = ENOTDIR
+rename /d/f /l = ok
+lstat /l = ok file 3
+open /g rw,creat = ok 1
+rename /l /g = ok
+stat /g = ok file 3
+fstat 1 = ok file 0
+stat /l = ENOENT
+list / 0 = ok d e g
+unlink /g = ok
+unlink /g = ENOENT
+fstat 0 = ok file 3
+list / 0 = ok d e
+";
+
 #[test]
 fn makes(rt: HostRuntime) -> Result<(), Fail> {
     expect(&rt, rt.alloc(), "", MAKES)
@@ -81,4 +138,9 @@ fn removes(rt: HostRuntime) -> Result<(), Fail> {
 #[test]
 fn lists(rt: HostRuntime) -> Result<(), Fail> {
     expect(&rt, rt.alloc(), "", LISTS)
+}
+
+#[test]
+fn files(rt: HostRuntime) -> Result<(), Fail> {
+    expect(&rt, rt.alloc(), "", FILES)
 }

@@ -1,5 +1,5 @@
-use super::super::repeated;
 use super::Script;
+use crate::repeated;
 use std::test::Fail;
 
 /// 40 links are followed, and not 41.

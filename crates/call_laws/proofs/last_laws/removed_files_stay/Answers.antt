@@ -1,0 +1,5 @@
+use Rattle.call_laws.proofs.LastLemmas.{removed_files_stay}
+use Rattle.call_laws.proofs.last_laws.removed_files_stay.Goals as goal
+
+pub returns : goal.returns
+returns c = removed_files_stay

@@ -1,0 +1,10 @@
+pub mod Entries
+pub mod EntryLaws
+pub mod PathLaws
+pub mod ErrorLaws
+pub mod FileLaws
+pub mod OpenLaws
+pub mod DebtLaws
+pub mod RunLaws
+pub mod LastLaws
+pub mod ExclusiveLaws

@@ -1,0 +1,96 @@
+-- Laws of the definitions, which say what a user may conclude of `open`, and of the number that it and `dup` give:
+-- POSIX.1-2017, XSH open() and dup().
+use Rattle.std.specs.Prelude.{◌≡◌, ◌≢◌, ℕ, ◌%◌, true, false, List, Option, None, Some, slice_get, slice_set}
+use Rattle.wf_core.specs.Limits.{group_count}
+use Rattle.name_store.specs.declared.operation.Node.{Node}
+use Rattle.name_store.specs.declared.operation.Node.TheVariants.{Dir, File as FileNode, Mount}
+use Rattle.name_store.specs.NameTrees.{Listing, entry_at}
+use Rattle.name_store.specs.Sound.{IsSound}
+use Rattle.name_store.specs.EntryLaws.{LeafMade}
+use Rattle.file_store.specs.declared.descriptor_operation.Slot.TheVariants as slot
+use Rattle.file_store.specs.DescriptorMap.{lowest_free}
+use Rattle.file_store.specs.declared.file.File.{File}
+use Rattle.file_store.specs.declared.file.Description.{Description}
+use Rattle.file_store.specs.FileGroups.{Group, description_at, empty_file, file_at}
+use Rattle.file_store.specs.Sound.{IsSound as IsSoundGroup, number_of}
+use Rattle.file_store.specs.WriteLaws.{Resizes}
+use Rattle.path_walk.specs.declared.route.Spot.{Spot}
+use Rattle.path_walk.specs.declared.open_request.OpenFlags.{OpenFlags}
+use Rattle.path_walk.specs.declared.call.Call.TheVariants.{Dup, Open}
+use Rattle.path_walk.specs.declared.call.Reply.TheVariants.{Fd}
+use Rattle.path_walk.specs.Store.{Store, backend_at, group_at, names_at, with_group, with_names}
+use Rattle.path_walk.specs.Paths.{slash_of}
+use Rattle.path_walk.specs.Programs.{replied}
+use Rattle.path_walk.specs.OpenPlan.{directory_fault, file_fault, flags_fault, mode_of}
+use Rattle.path_walk.specs.Posix.{posix}
+use Rattle.call_laws.specs.Entries.{NamesEntry, directory_at}
+use Rattle.call_laws.specs.FileLaws.{IsOpenOn}
+
+-- a group of a backend is there, and is what operations lead to
+pub record HasGroup (store : Store) (backend number : ℕ) : Type 0 where
+  pub there : slice_get (backend_at store backend).groups number ≡ Some (group_at store backend number)
+  pub sound : IsSoundGroup (group_at store backend number)
+  pub is : number_of (group_at store backend number) ≡ number
+
+-- `open` comes to an entry: its flags go together, that number is the lowest free one, and the path names that entry of a
+-- directory, where that node stands or nothing
+pub record ReachesEntry (store : Store) (path : List ℕ) (flags : OpenFlags) (number : ℕ) (here : Spot) (name : List ℕ) (node : Option Node) : Type 0 where
+  pub together : flags_fault flags ≡ None
+  pub lowest : lowest_free store.descriptors ≡ Some number
+  pub entry : NamesEntry store path here name
+  pub directory : Listing
+  pub there : directory_at store here ≡ Some directory
+  pub stands : entry_at directory name ≡ node
+
+-- a new description of a file, at its beginning
+abbrev pub description_of : ℕ → OpenFlags → Description
+description_of file flags = record { file = file; mode = mode_of flags; offset = 0 }
+
+-- the store in which only that group has changed, and that number, which names a description there
+abbrev pub with_opened : Store → ℕ → ℕ → Group → ℕ → ℕ → Store
+with_opened store backend group new number description = record (with_group store backend group new) { descriptors = slice_set store.descriptors number (slot.File backend description) }
+
+-- an empty file was made under a name, and opened under that number; all else stays
+pub record FileMade (old new : Store) (here : Spot) (name : List ℕ) (number : ℕ) (flags : OpenFlags) (group : ℕ) : Type 0 where
+  pub file : ℕ
+  pub absent : file_at (group_at old here.backend group) file ≡ None
+  pub empty : file_at (group_at new here.backend group) file ≡ Some empty_file
+  pub files : (other : ℕ) → other ≢ file → file_at (group_at new here.backend group) other ≡ file_at (group_at old here.backend group) other
+  pub opened : IsOpenOn new number here.backend group (description_of file flags)
+  pub descriptions : (other : ℕ) → other ≢ opened.id → description_at (group_at new here.backend group) other ≡ description_at (group_at old here.backend group) other
+  pub entry : IsSound (names_at old here.backend) → LeafMade (names_at old here.backend) (names_at new here.backend) here.directory name (FileNode file)
+  pub elsewhere : new ≡ with_names (with_opened old here.backend group (group_at new here.backend group) number opened.id) here.backend (names_at new here.backend)
+
+-- with `creat`, where nothing is, `open` makes an empty file, in the group that its number has
+pub record OpensNew (store : Store) (path : List ℕ) (flags : OpenFlags) (number : ℕ) (here : Spot) (name : List ℕ) : Type 0 where
+  pub reply : (posix store (Open path flags)).reply ≡ Fd number
+  pub made : FileMade store (posix store (Open path flags)).store here name number flags (number % group_count)
+
+abbrev pub OpensMakeFiles : Type 0
+OpensMakeFiles = (store : Store) (path : List ℕ) (flags : OpenFlags) (number : ℕ) (here : Spot) (name : List ℕ) → ReachesEntry store path flags number here name None → flags.creat ≡ true → slash_of path ≡ false → HasGroup store here.backend (number % group_count) → OpensNew store path flags number here name
+
+-- a file that is there was opened under that number: no name changes, and no file, but that `trunc` empties this one
+pub record FileOpened (old new : Store) (backend number : ℕ) (flags : OpenFlags) (file group : ℕ) (was : File) : Type 0 where
+  pub opened : IsOpenOn new number backend group (description_of file flags)
+  pub emptied : flags.trunc ≡ true → (now : File) × Resizes (group_at old backend group) (group_at new backend group) file was now 0
+  pub kept : flags.trunc ≡ false → (group_at new backend group).files ≡ (group_at old backend group).files
+  pub descriptions : (other : ℕ) → other ≢ opened.id → description_at (group_at new backend group) other ≡ description_at (group_at old backend group) other
+  pub elsewhere : new ≡ with_opened old backend group (group_at new backend group) number opened.id
+
+pub record OpensFile (store : Store) (path : List ℕ) (flags : OpenFlags) (number backend file : ℕ) (was : File) : Type 0 where
+  pub reply : (posix store (Open path flags)).reply ≡ Fd number
+  pub opened : FileOpened store (posix store (Open path flags)).store backend number flags file (file % group_count) was
+
+-- a directory was opened under that number, and nothing else has changed
+abbrev pub OpensDirectory : Store → List ℕ → OpenFlags → ℕ → ℕ → ℕ → Type 0
+OpensDirectory store path flags number backend directory = posix store (Open path flags) ≡ replied (record store { descriptors = slice_set store.descriptors number (slot.Dir backend directory) }) (Fd number)
+
+pub record OpensFind : Type 0 where
+  pub file : (store : Store) (path : List ℕ) (flags : OpenFlags) (number : ℕ) (here : Spot) (name : List ℕ) (file : ℕ) (was : File) → ReachesEntry store path flags number here name (Some (FileNode file)) → file_fault flags (slash_of path) ≡ None → HasGroup store here.backend (file % group_count) → file_at (group_at store here.backend (file % group_count)) file ≡ Some was → was.linked ≡ true → OpensFile store path flags number here.backend file was
+  pub directory : (store : Store) (path : List ℕ) (flags : OpenFlags) (number : ℕ) (here : Spot) (name : List ℕ) (id : ℕ) → ReachesEntry store path flags number here name (Some (Dir id)) → directory_fault flags ≡ None → OpensDirectory store path flags number here.backend id
+  pub mount : (store : Store) (path : List ℕ) (flags : OpenFlags) (number : ℕ) (here : Spot) (name : List ℕ) (backend : ℕ) → ReachesEntry store path flags number here name (Some (Mount backend)) → directory_fault flags ≡ None → OpensDirectory store path flags number backend 0
+
+-- whatever the path, the number is the lowest that was free
+pub record NumbersAreLowest : Type 0 where
+  pub opens : (store : Store) (path : List ℕ) (flags : OpenFlags) (number : ℕ) → (posix store (Open path flags)).reply ≡ Fd number → lowest_free store.descriptors ≡ Some number
+  pub dup : (store : Store) (number copy : ℕ) → (posix store (Dup number)).reply ≡ Fd copy → lowest_free store.descriptors ≡ Some copy

@@ -1,0 +1,18 @@
+//! What a user may conclude of `open`. The functions do nothing: each clause is a law.
+
+ghost use Rattle.call_laws.specs.OpenLaws.{NumbersAreLowest, OpensFind, OpensMakeFiles};
+
+/// With `creat`, where nothing is, `open` makes an empty file and opens it, and changes nothing else.
+pub fn opens_make_files()
+    ensures { OpensMakeFiles }
+{}
+
+/// `open` of a file or a directory that is there opens it, and changes nothing else, but that `trunc` empties the file.
+pub fn opens_find()
+    ensures { OpensFind }
+{}
+
+/// `open` and `dup` give the lowest number that was free.
+pub fn numbers_are_lowest()
+    ensures { NumbersAreLowest }
+{}

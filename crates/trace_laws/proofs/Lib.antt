@@ -1,0 +1,9 @@
+mod Pieces
+mod Numerals
+mod PrintedFields
+mod Flags
+mod Rows
+mod Builds
+mod CallLines
+mod Declarations
+mod Printable
