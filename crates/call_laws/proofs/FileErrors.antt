@@ -15,7 +15,7 @@ use Rattle.file_store.specs.declared.file_operation.FileOp.TheVariants.{Release}
 use Rattle.file_store.specs.FileGroups.{Group, description_at, fstep, release_outcome}
 use Rattle.file_store.specs.Laws.{LeavesGroup}
 use Rattle.file_store.proofs.StepLaws.{refusals_change_nothing}
-use Rattle.path_walk.specs.declared.descriptor_call.FileUse.{FileUse}
+use Rattle.path_walk.specs.declared.descriptor_call.DataCall.{DataCall}
 use Rattle.path_walk.specs.declared.step.StoreAnswer.TheVariants.{Files as FilesAnswer, Descriptors as DescriptorsAnswer}
 use Rattle.path_walk.specs.declared.step.StepAnswer.TheVariants.{Answered}
 use Rattle.path_walk.specs.declared.call.Reply.{Reply}
@@ -23,7 +23,7 @@ use Rattle.path_walk.specs.declared.call.Reply.TheVariants as reply
 use Rattle.path_walk.specs.Store.{Store, group_at, with_group}
 use Rattle.path_walk.specs.Programs.{CallOutcome}
 use Rattle.path_walk.specs.Plans.{at_once, fault_in, reply_to_files, unless_told}
-use Rattle.path_walk.specs.DescriptorCalls.{op_of_use, use_plan, uses, number_plan, changes_numbers}
+use Rattle.path_walk.specs.DescriptorCalls.{op_of_data, data_step_plan, data_plan, number_plan, changes_numbers}
 use Rattle.call_laws.specs.ErrorLaws.{DescriptionsAreThere}
 use Rattle.call_laws.proofs.StoreLemmas.{same_group}
 
@@ -44,17 +44,17 @@ fault_leaves (file_answer.At at) error e = cc
 
 -- The file of a descriptor.
 
-use_same : (store : Store) (purpose : FileUse) (named : Slot) → Same store (at_once store (use_plan purpose (Answered (DescriptorsAnswer (look_answer named)))))
+use_same : (store : Store) (purpose : DataCall) (named : Slot) → Same store (at_once store (data_step_plan purpose (Answered (DescriptorsAnswer (look_answer named)))))
 use_same store purpose slot.Free error e = refl
 use_same store purpose slot.Reserved error e = refl
 use_same store purpose (slot.Dir backend directory) error e = refl
 use_same store purpose (slot.File backend description) error e =
     let group = group_at store backend (description % group_count) in
-    let outcome = fstep group (op_of_use purpose description) in
-    ap (with_group store backend (description % group_count)) (refusals_change_nothing group (op_of_use purpose description) (fault_leaves outcome.answer error e))
+    let outcome = fstep group (op_of_data purpose description) in
+    ap (with_group store backend (description % group_count)) (refusals_change_nothing group (op_of_data purpose description) (fault_leaves outcome.answer error e))
     ∙ same_group store backend (description % group_count)
 
-pub uses_same : (store : Store) (number : ℕ) (purpose : FileUse) → Same store (at_once store (uses number purpose))
+pub uses_same : (store : Store) (number : ℕ) (purpose : DataCall) → Same store (at_once store (data_plan number purpose))
 uses_same store number purpose = use_same store purpose (slot_at store.descriptors number)
 
 -- Numbers.

@@ -14,13 +14,13 @@ use Rattle.file_store.specs.FileGroups.{Group, FilesOutcome, can_read, cut_outco
 use Rattle.file_store.specs.WriteLaws.{IsWritten, Resizes, WritesBytes}
 use Rattle.file_store.proofs.TableChanges.{changed_here}
 use Rattle.file_store.proofs.WriteLawLemmas.{cuts_keep_the_rest as group_cuts, writes_are_read as group_writes}
-use Rattle.path_walk.specs.declared.descriptor_call.FileUse.{FileUse}
-use Rattle.path_walk.specs.declared.descriptor_call.FileUse.TheVariants as file_use
+use Rattle.path_walk.specs.declared.descriptor_call.DataCall.{DataCall}
+use Rattle.path_walk.specs.declared.descriptor_call.DataCall.TheVariants as on_file
 use Rattle.path_walk.specs.declared.call.Reply.TheVariants as reply
 use Rattle.path_walk.specs.Store.{Store, group_at, with_group}
 use Rattle.path_walk.specs.Programs.{CallOutcome, replied}
 use Rattle.path_walk.specs.Plans.{at_once, reply_to_files}
-use Rattle.path_walk.specs.DescriptorCalls.{uses}
+use Rattle.path_walk.specs.DescriptorCalls.{data_plan}
 use Rattle.call_laws.specs.FileLaws.{AreReadAt, CutsKeepTheRest, FileCut, FileWritten, IsOpenOn, ReadBy, ReadsMoveOffsets, WritesAreRead, WrittenBy}
 use Rattle.call_laws.proofs.StoreLemmas.{same_group}
 use Rattle.call_laws.proofs.GroupLemmas.{file_found, group_here, is_fault, opened_use}
@@ -119,7 +119,7 @@ module _ (store : Store) (backend group file at : ℕ) (bytes : List ℕ) where
   reads_at before old new w reader skip count d opened same can low =
       let now : Group = group_at store backend group in
       let given : FilesOutcome = fstep now (op.Readat opened.id count (pos (at + skip))) in
-      opened_use store reader (file_use.Readat count (pos (at + skip))) backend group d opened
+      opened_use store reader (on_file.Pread count (pos (at + skip))) backend group d opened
       ∙ ap (λ (g : Group). let o : CallOutcome = record { store = with_group store backend group g; reply = reply_to_files given.answer } in o) (readat_same now count (pos (at + skip)) (open_file_at now opened.id))
       ∙ ap (λ (s : Store). replied s (reply_to_files given.answer)) (same_group store backend group)
       ∙ ap (λ (a : FileAnswer). replied store (reply_to_files a)) (group_writes.read_at before now file old new at bytes w opened.id skip count d opened.there same can low)
@@ -159,13 +159,13 @@ module _ (store : Store) (number backend group : ℕ) (d : Description) (opened 
     offset = still_open left (record d { offset = at + length bytes }) moved;
   }
 
-  abbrev called : FileUse → CallOutcome
-  called purpose = at_once store (uses number purpose)
+  abbrev called : DataCall → CallOutcome
+  called purpose = at_once store (data_plan number purpose)
 
-  write_call : (count at : ℕ) (bytes : List ℕ) → ((file : File) → open_file_at now opened.id ≡ Some (d, file) → file_at now d.file ≡ Some file → (fstep now (op.Write opened.id bytes)).answer ≡ answer.Count count → IsWritten now (fstep now (op.Write opened.id bytes)).group opened.id d file at bytes) → (called (file_use.Write bytes)).reply ≡ reply.Count count → WrittenBy store (called (file_use.Write bytes)).store number backend group d count at bytes
+  write_call : (count at : ℕ) (bytes : List ℕ) → ((file : File) → open_file_at now opened.id ≡ Some (d, file) → file_at now d.file ≡ Some file → (fstep now (op.Write opened.id bytes)).answer ≡ answer.Count count → IsWritten now (fstep now (op.Write opened.id bytes)).group opened.id d file at bytes) → (called (on_file.Write bytes)).reply ≡ reply.Count count → WrittenBy store (called (on_file.Write bytes)).store number backend group d count at bytes
   write_call count at bytes law e =
       let o : FilesOutcome = fstep now (op.Write opened.id bytes) in
-      let is = opened_use store number (file_use.Write bytes) backend group d opened in
+      let is = opened_use store number (on_file.Write bytes) backend group d opened in
       let told : o.answer ≡ answer.Count count = count_told o.answer count (sym (ap (λ (c : CallOutcome). c.reply) is) ∙ e) in
       let (file, with_file, there) = file_found now opened.id d (write_outcome now opened.id bytes) opened.there (unfaulted o.answer (answer.Count count) told refl) in
       let all : count ≡ length bytes = counted now opened.id bytes d file count (sym (ap (λ (found : Option (Description × File)). (on_open now (write_outcome now opened.id bytes) found).answer) with_file) ∙ told) in
@@ -177,17 +177,17 @@ module _ (store : Store) (number backend group : ℕ) (d : Description) (opened 
   pwritten : (left : Group) (file : File) (count at : ℕ) (bytes : List ℕ) → count ≡ length bytes → ((new : File) × WritesBytes now left d.file file new at bytes × (left.descriptions ≡ now.descriptions)) → PwriteIs (later left) count at bytes
   pwritten left file count at bytes all (new, w, same) = (all, file_written left d.file at bytes file new w, ap (λ (g : Group). g.descriptions) (here left) ∙ same)
 
-  pwrite_call : (count at : ℕ) (bytes : List ℕ) (offset : ℤ) → natural offset ≡ Some at → 0 < length bytes → (called (file_use.Writeat bytes offset)).reply ≡ reply.Count count → PwriteIs (called (file_use.Writeat bytes offset)).store count at bytes
+  pwrite_call : (count at : ℕ) (bytes : List ℕ) (offset : ℤ) → natural offset ≡ Some at → 0 < length bytes → (called (on_file.Pwrite bytes offset)).reply ≡ reply.Count count → PwriteIs (called (on_file.Pwrite bytes offset)).store count at bytes
   pwrite_call count at bytes offset is_at some e =
       let o : FilesOutcome = fstep now (op.Writeat opened.id bytes offset) in
-      let is = opened_use store number (file_use.Writeat bytes offset) backend group d opened in
+      let is = opened_use store number (on_file.Pwrite bytes offset) backend group d opened in
       let told : o.answer ≡ answer.Count count = count_told o.answer count (sym (ap (λ (c : CallOutcome). c.reply) is) ∙ e) in
       let (file, with_file, there) = file_found now opened.id d (writeat_outcome now bytes offset) opened.there (unfaulted o.answer (answer.Count count) told refl) in
       let all : count ≡ length bytes = counted_at now bytes offset d file count (sym (ap (λ (found : Option (Description × File)). (on_open now (writeat_outcome now bytes offset) found).answer) with_file) ∙ told) in
       subst (λ (s : Store). PwriteIs s count at bytes) (sym (ap (λ (c : CallOutcome). c.store) is)) (pwritten o.group file count at bytes all (group_writes.write_at now opened.id bytes offset at count d file with_file is_at some told))
 
   -- the end of the file that was written to
-  append_call : (count : ℕ) (bytes : List ℕ) (file : File) → file_at now d.file ≡ Some file → d.mode.append ≡ true → 0 < length bytes → (called (file_use.Write bytes)).reply ≡ reply.Count count → WrittenBy store (called (file_use.Write bytes)).store number backend group d count (length file.bytes) bytes
+  append_call : (count : ℕ) (bytes : List ℕ) (file : File) → file_at now d.file ≡ Some file → d.mode.append ≡ true → 0 < length bytes → (called (on_file.Write bytes)).reply ≡ reply.Count count → WrittenBy store (called (on_file.Write bytes)).store number backend group d count (length file.bytes) bytes
   append_call count bytes file is mode some e = write_call count (length file.bytes) bytes (λ other with_file there told. appended other (sym there ∙ is) (group_writes.append now opened.id bytes count d other with_file mode some told)) e
     where
       appended : (other : File) → Some other ≡ Some file → IsWritten now (fstep now (op.Write opened.id bytes)).group opened.id d other (length other.bytes) bytes → IsWritten now (fstep now (op.Write opened.id bytes)).group opened.id d other (length file.bytes) bytes
@@ -209,10 +209,10 @@ module _ (store : Store) (number backend group : ℕ) (d : Description) (opened 
     elsewhere = ap later (sym (here left));
   }
 
-  read_call : (count : ℕ) (bytes : List ℕ) → (called (file_use.Read count)).reply ≡ reply.Bytes bytes → ReadBy store (called (file_use.Read count)).store number backend group count d bytes
+  read_call : (count : ℕ) (bytes : List ℕ) → (called (on_file.Read count)).reply ≡ reply.Bytes bytes → ReadBy store (called (on_file.Read count)).store number backend group count d bytes
   read_call count bytes e =
       let o : FilesOutcome = fstep now (op.Read opened.id count) in
-      let is = opened_use store number (file_use.Read count) backend group d opened in
+      let is = opened_use store number (on_file.Read count) backend group d opened in
       let told : o.answer ≡ answer.Bytes bytes = bytes_told o.answer bytes (sym (ap (λ (c : CallOutcome). c.reply) is) ∙ e) in
       let (file, with_file, there) = file_found now opened.id d (read_outcome now opened.id count) opened.there (unfaulted o.answer (answer.Bytes bytes) told refl) in
       let same : o ≡ read_outcome now opened.id count d file = ap (λ (found : Option (Description × File)). on_open now (read_outcome now opened.id count) found) with_file in
@@ -231,10 +231,10 @@ module _ (store : Store) (number backend group : ℕ) (d : Description) (opened 
     elsewhere = ap later (sym (here left));
   }
 
-  cut_call : (n : ℕ) (size : ℤ) → natural size ≡ Some n → (called (file_use.Cut size)).reply ≡ reply.Done → FileCut store (called (file_use.Cut size)).store backend group d.file n
+  cut_call : (n : ℕ) (size : ℤ) → natural size ≡ Some n → (called (on_file.Ftruncate size)).reply ≡ reply.Done → FileCut store (called (on_file.Ftruncate size)).store backend group d.file n
   cut_call n size is_size e =
       let o : FilesOutcome = fstep now (op.Cut opened.id size) in
-      let is = opened_use store number (file_use.Cut size) backend group d opened in
+      let is = opened_use store number (on_file.Ftruncate size) backend group d opened in
       let done : reply_to_files o.answer ≡ reply.Done = sym (ap (λ (c : CallOutcome). c.reply) is) ∙ e in
       let (file, with_file, there) = file_found now opened.id d (cut_outcome now size) opened.there (done_unfaulted o.answer done) in
       let told : o.answer ≡ answer.Done = cut_told now size d file o.answer (ap (λ (found : Option (Description × File)). (on_open now (cut_outcome now size) found).answer) with_file) done in

@@ -8,13 +8,13 @@ use Rattle.file_store.specs.declared.file.Description.{Description}
 use Rattle.file_store.specs.declared.file_operation.FileAnswer.{FileAnswer}
 use Rattle.file_store.specs.declared.file_operation.FileAnswer.TheVariants as answer
 use Rattle.file_store.specs.FileGroups.{Group, FilesOutcome, description_at, file_at, fstep, on_open, open_file_at, open_file_of, open_file_with, opening}
-use Rattle.path_walk.specs.declared.descriptor_call.FileUse.{FileUse}
+use Rattle.path_walk.specs.declared.descriptor_call.DataCall.{DataCall}
 use Rattle.path_walk.specs.declared.step.StoreAnswer.TheVariants.{Descriptors as DescriptorsAnswer}
 use Rattle.path_walk.specs.declared.step.StepAnswer.TheVariants.{Answered}
 use Rattle.path_walk.specs.Store.{Store, Backend, backend_at, group_at, with_group, with_names}
 use Rattle.path_walk.specs.Programs.{CallOutcome}
 use Rattle.path_walk.specs.Plans.{at_once, reply_to_files}
-use Rattle.path_walk.specs.DescriptorCalls.{op_of_use, use_plan, uses}
+use Rattle.path_walk.specs.DescriptorCalls.{op_of_data, data_step_plan, data_plan}
 use Rattle.call_laws.specs.FileLaws.{IsOpenOn}
 use Rattle.call_laws.proofs.StoreLemmas.{no_backend, set_here}
 
@@ -69,10 +69,10 @@ groups_named store backend tree other number = ap (λ (groups : List Group). unw
 abbrev pub after_use : Store → ℕ → ℕ → FilesOutcome → CallOutcome
 after_use store backend group outcome = record { store = with_group store backend group outcome.group; reply = reply_to_files outcome.answer }
 
-pub opened_use : (store : Store) (number : ℕ) (purpose : FileUse) (backend group : ℕ) (d : Description) (opened : IsOpenOn store number backend group d) → at_once store (uses number purpose) ≡ after_use store backend group (fstep (group_at store backend group) (op_of_use purpose opened.id))
+pub opened_use : (store : Store) (number : ℕ) (purpose : DataCall) (backend group : ℕ) (d : Description) (opened : IsOpenOn store number backend group d) → at_once store (data_plan number purpose) ≡ after_use store backend group (fstep (group_at store backend group) (op_of_data purpose opened.id))
 opened_use store number purpose backend group d opened =
-    ap (λ (s : Slot). at_once store (use_plan purpose (Answered (DescriptorsAnswer (look_answer s))))) opened.named
-    ∙ ap (λ (n : ℕ). after_use store backend n (fstep (group_at store backend n) (op_of_use purpose opened.id))) opened.of_group
+    ap (λ (s : Slot). at_once store (data_step_plan purpose (Answered (DescriptorsAnswer (look_answer s))))) opened.named
+    ∙ ap (λ (n : ℕ). after_use store backend n (fstep (group_at store backend n) (op_of_data purpose opened.id))) opened.of_group
 
 abbrev pub is_fault : FileAnswer → Bool
 is_fault (answer.Fault error) = true

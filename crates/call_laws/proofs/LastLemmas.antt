@@ -20,8 +20,8 @@ use Rattle.file_store.specs.declared.file_operation.FileAnswer.TheVariants as an
 use Rattle.file_store.specs.Tables.{Table, without_row}
 use Rattle.file_store.specs.FileGroups.{Group, FilesOutcome, description_at, file_at, files_after_sweep, files_after_unlink, fstep, is_open, on_open, open_file_at, open_file_of, open_file_with, readat_outcome, release_outcome, size_outcome, with_files}
 use Rattle.file_store.proofs.TableChanges.{changed_here, changed_other, removed_here, removed_other, some_found}
-use Rattle.path_walk.specs.declared.descriptor_call.FileUse.{FileUse}
-use Rattle.path_walk.specs.declared.descriptor_call.FileUse.TheVariants as file_use
+use Rattle.path_walk.specs.declared.descriptor_call.DataCall.{DataCall}
+use Rattle.path_walk.specs.declared.descriptor_call.DataCall.TheVariants as on_file
 use Rattle.path_walk.specs.declared.step.StoreAnswer.TheVariants.{Descriptors as DescriptorsAnswer, Files as FilesAnswer}
 use Rattle.path_walk.specs.declared.step.StepAnswer.TheVariants.{Answered}
 use Rattle.path_walk.specs.declared.call.Call.TheVariants.{Close}
@@ -29,7 +29,7 @@ use Rattle.path_walk.specs.declared.call.Reply.TheVariants as reply
 use Rattle.path_walk.specs.Store.{Store, group_at, with_group, with_names}
 use Rattle.path_walk.specs.Programs.{CallOutcome}
 use Rattle.path_walk.specs.Plans.{at_once, fault_in, reply_to_files, unless_told}
-use Rattle.path_walk.specs.DescriptorCalls.{op_of_use, use_plan}
+use Rattle.path_walk.specs.DescriptorCalls.{op_of_data, data_step_plan}
 use Rattle.path_walk.specs.Posix.{posix}
 use Rattle.call_laws.specs.Entries.{after_loss}
 use Rattle.call_laws.specs.LastLaws.{IsLast, ReadsAsBefore, RemovedFilesGo, RemovedFilesStay}
@@ -106,7 +106,7 @@ module _ (group : Group) (file : ℕ) where
 abbrev AnswerAlike : Store → Store → (ℕ → FileOp) → Type 0
 AnswerAlike old new asked = (b id : ℕ) → (fstep (group_at new b (id % group_count)) (asked id)).answer ≡ (fstep (group_at old b (id % group_count)) (asked id)).answer
 
-used_alike : (old new : Store) (purpose : FileUse) → AnswerAlike old new (op_of_use purpose) → (named : Slot) → (at_once new (use_plan purpose (Answered (DescriptorsAnswer (look_answer named))))).reply ≡ (at_once old (use_plan purpose (Answered (DescriptorsAnswer (look_answer named))))).reply
+used_alike : (old new : Store) (purpose : DataCall) → AnswerAlike old new (op_of_data purpose) → (named : Slot) → (at_once new (data_step_plan purpose (Answered (DescriptorsAnswer (look_answer named))))).reply ≡ (at_once old (data_step_plan purpose (Answered (DescriptorsAnswer (look_answer named))))).reply
 used_alike old new purpose alike slot.Free = refl
 used_alike old new purpose alike slot.Reserved = refl
 used_alike old new purpose alike (slot.Dir b id) = refl
@@ -138,8 +138,8 @@ module _ (store : Store) (backend : ℕ) (tree : Tree) where
 
   loss_stays : (node : Node) → ReadsAsBefore store (after_loss named backend (Some node))
   loss_stays node = record {
-    pread = λ number count offset. ap (λ (s : Slot). (at_once (after_loss named backend (Some node)) (use_plan (file_use.Readat count offset) (Answered (DescriptorsAnswer (look_answer s))))).reply) (ap (λ (m : List Slot). slot_at m number) (loss_descriptors node)) ∙ used_alike store (after_loss named backend (Some node)) (file_use.Readat count offset) (lost_alike (λ id. op.Readat id count offset) (λ group file id. read_same group file id count offset) node) (slot_at store.descriptors number);
-    fstat = λ number. ap (λ (s : Slot). (at_once (after_loss named backend (Some node)) (use_plan file_use.Size (Answered (DescriptorsAnswer (look_answer s))))).reply) (ap (λ (m : List Slot). slot_at m number) (loss_descriptors node)) ∙ used_alike store (after_loss named backend (Some node)) file_use.Size (lost_alike (λ id. op.Size id) (λ group file id. size_same group file id) node) (slot_at store.descriptors number);
+    pread = λ number count offset. ap (λ (s : Slot). (at_once (after_loss named backend (Some node)) (data_step_plan (on_file.Pread count offset) (Answered (DescriptorsAnswer (look_answer s))))).reply) (ap (λ (m : List Slot). slot_at m number) (loss_descriptors node)) ∙ used_alike store (after_loss named backend (Some node)) (on_file.Pread count offset) (lost_alike (λ id. op.Readat id count offset) (λ group file id. read_same group file id count offset) node) (slot_at store.descriptors number);
+    fstat = λ number. ap (λ (s : Slot). (at_once (after_loss named backend (Some node)) (data_step_plan on_file.Fstat (Answered (DescriptorsAnswer (look_answer s))))).reply) (ap (λ (m : List Slot). slot_at m number) (loss_descriptors node)) ∙ used_alike store (after_loss named backend (Some node)) on_file.Fstat (lost_alike (λ id. op.Size id) (λ group file id. size_same group file id) node) (slot_at store.descriptors number);
   }
 
 pub removed_files_stay : RemovedFilesStay

@@ -10,8 +10,8 @@ use Rattle.file_store.specs.Tables.{Table, row_at}
 use Rattle.file_store.specs.declared.file.File.{File}
 use Rattle.file_store.specs.declared.file.Description.{Description}
 use Rattle.file_store.specs.FileBytes.{part}
-use Rattle.path_walk.specs.declared.descriptor_call.FileUse.{FileUse}
-use Rattle.path_walk.specs.declared.descriptor_call.FileUse.TheVariants as file_use
+use Rattle.path_walk.specs.declared.descriptor_call.DataCall.{DataCall}
+use Rattle.path_walk.specs.declared.descriptor_call.DataCall.TheVariants as on_file
 use Rattle.path_walk.specs.declared.step.StoreAnswer.TheVariants.{Descriptors as DescriptorsAnswer}
 use Rattle.path_walk.specs.declared.step.StepAnswer.TheVariants.{Answered}
 use Rattle.path_walk.specs.declared.call.Call.TheVariants.{Dup, Read}
@@ -19,7 +19,7 @@ use Rattle.path_walk.specs.declared.call.Reply.TheVariants as reply
 use Rattle.path_walk.specs.Store.{Store}
 use Rattle.path_walk.specs.Programs.{CallOutcome}
 use Rattle.path_walk.specs.Plans.{at_once}
-use Rattle.path_walk.specs.DescriptorCalls.{number_plan, use_plan, uses}
+use Rattle.path_walk.specs.DescriptorCalls.{number_plan, data_step_plan, data_plan}
 use Rattle.path_walk.specs.Posix.{posix}
 use Rattle.call_laws.specs.FileLaws.{AreOne, CopiesShare, DoTheSame, IsOpenOn, ReadBy, ReadsOn}
 use Rattle.call_laws.proofs.FileLemmas.{reads_move_offsets}
@@ -47,18 +47,18 @@ module _ (store : Store) (number : ℕ) where
       (at_copy ∙ first ∙ sym second ∙ sym at_number, at_number ∙ second)
 
 module _ (store : Store) (number other : ℕ) (one : AreOne store number other) where
-  use_same : (purpose : FileUse) → at_once store (uses other purpose) ≡ at_once store (uses number purpose)
-  use_same purpose = ap (λ (s : Slot). at_once store (use_plan purpose (Answered (DescriptorsAnswer (look_answer s))))) one
+  use_same : (purpose : DataCall) → at_once store (data_plan other purpose) ≡ at_once store (data_plan number purpose)
+  use_same purpose = ap (λ (s : Slot). at_once store (data_step_plan purpose (Answered (DescriptorsAnswer (look_answer s))))) one
 
   do_the_same : DoTheSame store number other
   do_the_same = record {
-    read = λ count. use_same (file_use.Read count);
-    pread = λ count offset. use_same (file_use.Readat count offset);
-    write = λ bytes. use_same (file_use.Write bytes);
-    pwrite = λ bytes offset. use_same (file_use.Writeat bytes offset);
-    seek = λ offset whence. use_same (file_use.Seek offset whence);
-    ftruncate = λ size. use_same (file_use.Cut size);
-    fstat = use_same file_use.Size;
+    read = λ count. use_same (on_file.Read count);
+    pread = λ count offset. use_same (on_file.Pread count offset);
+    write = λ bytes. use_same (on_file.Write bytes);
+    pwrite = λ bytes offset. use_same (on_file.Pwrite bytes offset);
+    seek = λ offset whence. use_same (on_file.Seek offset whence);
+    ftruncate = λ size. use_same (on_file.Ftruncate size);
+    fstat = use_same on_file.Fstat;
   }
 
   reads_on : (backend group : ℕ) → ReadsOn store number other backend group

@@ -23,8 +23,8 @@ use Rattle.path_walk.specs.declared.route.End.TheVariants.{Directory, File, Link
 use Rattle.path_walk.specs.declared.open_request.OpenFlags.{OpenFlags}
 use Rattle.path_walk.specs.declared.open_request.OpenRequest.{OpenRequest}
 use Rattle.path_walk.specs.declared.open_request.OpenRoute.{OpenRoute}
-use Rattle.path_walk.specs.declared.descriptor_call.FileUse.{FileUse}
-use Rattle.path_walk.specs.declared.descriptor_call.FileUse.TheVariants as file_use
+use Rattle.path_walk.specs.declared.descriptor_call.DataCall.{DataCall}
+use Rattle.path_walk.specs.declared.descriptor_call.DataCall.TheVariants as on_file
 use Rattle.path_walk.specs.declared.step.CellId.{CellId}
 use Rattle.path_walk.specs.declared.step.CellId.TheVariants.{Names as NamesCell, Files as FilesCell, Descriptors as DescriptorsCell}
 use Rattle.path_walk.specs.declared.step.StoreOp.{StoreOp}
@@ -38,7 +38,7 @@ use Rattle.path_walk.specs.PathMeaning.{Way, Course, ends, goes, path_start, roo
 use Rattle.path_walk.specs.Programs.{Begins, Program, finished, asks, Step}
 use Rattle.path_walk.specs.Walk.{course_on, node_in, program_on, walk}
 use Rattle.path_walk.specs.Plans.{Plan, replies, steps, walks, cell_of_id, fails, fault_in, program_of, reply_to, unless_fault}
-use Rattle.path_walk.specs.DescriptorCalls.{number_plan, op_of_use, releases, use_plan}
+use Rattle.path_walk.specs.DescriptorCalls.{number_plan, op_of_data, releases, data_step_plan}
 use Rattle.path_walk.specs.OpenPlan.{absent_fault, added_plan, attached_by, attached_plan, description_in, directory_fault, drops, file_fault, file_in, fills, flags_fault, follows, found_plan, link_fault, looked_plan, looks, made_by, made_plan, makes, meant_plan, open_end, open_route, open_walks_max, opens_along, opens_by, opens_directory, opens_file, request_of, reserved_plan, route_to, unless_drops, unlinked_plan, unmakes}
 use Rattle.path_walk.specs.Calls.{last_step, plan_after, unlinked_by}
 use Rattle.path_walk.specs.Posix.{program}
@@ -345,16 +345,16 @@ copies_few Closed = reply_few _ _ small_none
 
 -- The file of a descriptor.
 
-file_use_few : (backend description : ℕ) (purpose : FileUse) → OwesFew no_debt (steps (cell_of_id backend description) (FilesOp (op_of_use purpose description)) (λ told. replies (reply_to told)))
-file_use_few backend description (file_use.Read count) = step_few no_debt (cell_of_id backend description) (FilesOp (op_of_use (file_use.Read count) description)) (λ told. replies (reply_to told)) small_none (λ told. reply_few _ _ small_none)
-file_use_few backend description (file_use.Readat count offset) = step_few no_debt (cell_of_id backend description) (FilesOp (op_of_use (file_use.Readat count offset) description)) (λ told. replies (reply_to told)) small_none (λ told. reply_few _ _ small_none)
-file_use_few backend description (file_use.Write bytes) = step_few no_debt (cell_of_id backend description) (FilesOp (op_of_use (file_use.Write bytes) description)) (λ told. replies (reply_to told)) small_none (λ told. reply_few _ _ small_none)
-file_use_few backend description (file_use.Writeat bytes offset) = step_few no_debt (cell_of_id backend description) (FilesOp (op_of_use (file_use.Writeat bytes offset) description)) (λ told. replies (reply_to told)) small_none (λ told. reply_few _ _ small_none)
-file_use_few backend description (file_use.Seek offset whence) = step_few no_debt (cell_of_id backend description) (FilesOp (op_of_use (file_use.Seek offset whence) description)) (λ told. replies (reply_to told)) small_none (λ told. reply_few _ _ small_none)
-file_use_few backend description (file_use.Cut size) = step_few no_debt (cell_of_id backend description) (FilesOp (op_of_use (file_use.Cut size) description)) (λ told. replies (reply_to told)) small_none (λ told. reply_few _ _ small_none)
-file_use_few backend description file_use.Size = step_few no_debt (cell_of_id backend description) (FilesOp (op_of_use file_use.Size description)) (λ told. replies (reply_to told)) small_none (λ told. reply_few _ _ small_none)
+file_use_few : (backend description : ℕ) (purpose : DataCall) → OwesFew no_debt (steps (cell_of_id backend description) (FilesOp (op_of_data purpose description)) (λ told. replies (reply_to told)))
+file_use_few backend description (on_file.Read count) = step_few no_debt (cell_of_id backend description) (FilesOp (op_of_data (on_file.Read count) description)) (λ told. replies (reply_to told)) small_none (λ told. reply_few _ _ small_none)
+file_use_few backend description (on_file.Pread count offset) = step_few no_debt (cell_of_id backend description) (FilesOp (op_of_data (on_file.Pread count offset) description)) (λ told. replies (reply_to told)) small_none (λ told. reply_few _ _ small_none)
+file_use_few backend description (on_file.Write bytes) = step_few no_debt (cell_of_id backend description) (FilesOp (op_of_data (on_file.Write bytes) description)) (λ told. replies (reply_to told)) small_none (λ told. reply_few _ _ small_none)
+file_use_few backend description (on_file.Pwrite bytes offset) = step_few no_debt (cell_of_id backend description) (FilesOp (op_of_data (on_file.Pwrite bytes offset) description)) (λ told. replies (reply_to told)) small_none (λ told. reply_few _ _ small_none)
+file_use_few backend description (on_file.Seek offset whence) = step_few no_debt (cell_of_id backend description) (FilesOp (op_of_data (on_file.Seek offset whence) description)) (λ told. replies (reply_to told)) small_none (λ told. reply_few _ _ small_none)
+file_use_few backend description (on_file.Ftruncate size) = step_few no_debt (cell_of_id backend description) (FilesOp (op_of_data (on_file.Ftruncate size) description)) (λ told. replies (reply_to told)) small_none (λ told. reply_few _ _ small_none)
+file_use_few backend description on_file.Fstat = step_few no_debt (cell_of_id backend description) (FilesOp (op_of_data on_file.Fstat description)) (λ told. replies (reply_to told)) small_none (λ told. reply_few _ _ small_none)
 
-use_few : (purpose : FileUse) (told : StepAnswer) → OwesFew no_debt (use_plan purpose told)
+use_few : (purpose : DataCall) (told : StepAnswer) → OwesFew no_debt (data_step_plan purpose told)
 use_few purpose (Answered (NamesAnswer given)) = reply_few _ _ small_none
 use_few purpose (Answered (FilesAnswer given)) = reply_few _ _ small_none
 use_few purpose (Answered (DescriptorsAnswer (fd_answer.Fd given))) = reply_few _ _ small_none
@@ -402,7 +402,7 @@ few_holds = record {
   over = λ count given. reply_few _ given small_none;
   size = λ count backend file so. step_few no_debt (cell_of_id backend file) (FilesOp (file_op.Sizeof file)) _ small_none (λ told. reply_few _ _ small_none);
   last = λ count backend op so. last_few backend op;
-  uses_files = λ number purpose. step_few no_debt DescriptorsCell (DescriptorsOp (fd.Look number)) (use_plan purpose) small_none (λ told. use_few purpose told);
+  uses_files = λ number purpose. step_few no_debt DescriptorsCell (DescriptorsOp (fd.Look number)) (data_step_plan purpose) small_none (λ told. use_few purpose told);
   takes_numbers = λ number. step_few no_debt DescriptorsCell (DescriptorsOp (fd.Take number)) number_plan small_none (λ told. numbers_few told);
   copies_numbers = λ number. step_few no_debt DescriptorsCell (DescriptorsOp (fd.Copy number)) number_plan small_none (λ told. copies_few told);
   copies_onto = λ number target. step_few no_debt DescriptorsCell (DescriptorsOp (fd.Copyto number target)) number_plan small_none (λ told. numbers_few told);

@@ -17,12 +17,12 @@ use Rattle.path_walk.specs.declared.step.StoreOp.{StoreOp}
 use Rattle.path_walk.specs.declared.step.StoreOp.TheVariants.{Names as NamesOp, Files as FilesOp, Descriptors as DescriptorsOp}
 use Rattle.path_walk.specs.declared.step.StepAnswer.TheVariants.{Answered}
 use Rattle.path_walk.specs.declared.call.Call.{Call}
-use Rattle.path_walk.specs.Store.{Backend, Store, backend_at, cstep, group_at, names_at, with_backend, with_group, with_names}
+use Rattle.path_walk.specs.Store.{Backend, Store, backend_at, cstep, group_at, names_at, with_backend, with_group, with_names, opening_backend}
 use Rattle.path_walk.specs.PathMeaning.{resolve}
 use Rattle.path_walk.specs.Plans.{Plan, replies, steps, walks, at_once}
 use Rattle.path_walk.specs.Calls.{plan}
 use Rattle.path_walk.specs.Posix.{posix}
-use Rattle.call_laws.specs.RunLaws.{IsSoundBackend, IsSoundStore, RunsAreSound, opening_backend, opening_store, store_after}
+use Rattle.call_laws.specs.RunLaws.{IsSoundBackend, IsSoundStore, RunsAreSound, opening_store, store_after}
 use Rattle.call_laws.proofs.StoreLemmas.{no_backend, set_here, set_other}
 
 -- what stands in a list after a change is what was put there, or stood there before

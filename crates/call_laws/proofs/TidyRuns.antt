@@ -10,20 +10,20 @@ use Rattle.file_store.specs.declared.descriptor_operation.FdAnswer.TheVariants a
 use Rattle.file_store.specs.DescriptorMap.{Map, copyto_outcome_over, is_description_open, is_named, look_answer, lowest_free, opening, outcome_of, place_outcome, slot_at, take_outcome}
 use Rattle.file_store.specs.declared.file_operation.FileOp.TheVariants.{Sizeof, Unlinked}
 use Rattle.file_store.specs.FileGroups.{description_at, opening as group_opening}
-use Rattle.path_walk.specs.declared.descriptor_call.FileUse.{FileUse}
-use Rattle.path_walk.specs.declared.descriptor_call.FileUse.TheVariants as file_use
+use Rattle.path_walk.specs.declared.descriptor_call.DataCall.{DataCall}
+use Rattle.path_walk.specs.declared.descriptor_call.DataCall.TheVariants as on_file
 use Rattle.path_walk.specs.declared.step.StepAnswer.{StepAnswer}
 use Rattle.path_walk.specs.declared.step.StoreAnswer.TheVariants.{Names as NamesAnswer, Descriptors as DescriptorsAnswer}
 use Rattle.path_walk.specs.declared.step.StepAnswer.TheVariants.{Answered}
 use Rattle.path_walk.specs.declared.call.Call.{Call}
-use Rattle.path_walk.specs.Store.{Store, group_at, names_at, with_names}
+use Rattle.path_walk.specs.Store.{Store, group_at, names_at, with_names, opening_backend}
 use Rattle.path_walk.specs.PathMeaning.{resolve, root_of}
 use Rattle.path_walk.specs.Plans.{Plan, at_once}
-use Rattle.path_walk.specs.DescriptorCalls.{op_of_use, use_plan}
+use Rattle.path_walk.specs.DescriptorCalls.{op_of_data, data_step_plan}
 use Rattle.path_walk.specs.Calls.{plan_after, unlinked_by}
 use Rattle.path_walk.specs.Posix.{posix}
 use Rattle.path_walk.proofs.Plans.{Holds, any_end, each_call}
-use Rattle.call_laws.specs.RunLaws.{IsSoundStore, IsTidy, RunsAreTidy, opening_backend, opening_store, store_after}
+use Rattle.call_laws.specs.RunLaws.{IsSoundStore, IsTidy, RunsAreTidy, opening_store, store_after}
 use Rattle.call_laws.proofs.SharingLemmas.{after_numbers}
 use Rattle.call_laws.proofs.OpenErrors.{lowest_is_free}
 use Rattle.call_laws.proofs.SoundStores.{call_stays_sound, opening_is_sound}
@@ -36,20 +36,20 @@ record KeepsTidy (p : Plan) : Type 0 where
 
 -- The file of a descriptor.
 
-is_use : (purpose : FileUse) (d : ℕ) → IsUse (op_of_use purpose d)
-is_use (file_use.Read count) d = tt
-is_use (file_use.Readat count offset) d = tt
-is_use (file_use.Write bytes) d = tt
-is_use (file_use.Writeat bytes offset) d = tt
-is_use (file_use.Seek offset whence) d = tt
-is_use (file_use.Cut size) d = tt
-is_use file_use.Size d = tt
+is_use : (purpose : DataCall) (d : ℕ) → IsUse (op_of_data purpose d)
+is_use (on_file.Read count) d = tt
+is_use (on_file.Pread count offset) d = tt
+is_use (on_file.Write bytes) d = tt
+is_use (on_file.Pwrite bytes offset) d = tt
+is_use (on_file.Seek offset whence) d = tt
+is_use (on_file.Ftruncate size) d = tt
+is_use on_file.Fstat d = tt
 
-use_tidy : (store : Store) (purpose : FileUse) (named : Slot) → IsTidy store → IsTidy (at_once store (use_plan purpose (Answered (DescriptorsAnswer (look_answer named))))).store
+use_tidy : (store : Store) (purpose : DataCall) (named : Slot) → IsTidy store → IsTidy (at_once store (data_step_plan purpose (Answered (DescriptorsAnswer (look_answer named))))).store
 use_tidy store purpose slot.Free tidy = tidy
 use_tidy store purpose slot.Reserved tidy = tidy
 use_tidy store purpose (slot.Dir b id) tidy = tidy
-use_tidy store purpose (slot.File b d) tidy = tidy_group store b (d % group_count) _ (use_keeps (group_at store b (d % group_count)) (op_of_use purpose d) (is_use purpose d)) tidy
+use_tidy store purpose (slot.File b d) tidy = tidy_group store b (d % group_count) _ (use_keeps (group_at store b (d % group_count)) (op_of_data purpose d) (is_use purpose d)) tidy
 
 -- Names.
 

@@ -23,8 +23,8 @@ use Rattle.file_store.specs.FileGroups.{Group, empty_file, file_at, fstep, openi
 use Rattle.file_store.specs.Sound.{IsSound as IsSoundGroup}
 use Rattle.file_store.proofs.Soundness.{opening_sound}
 use Rattle.file_store.proofs.TableChanges.{added_other}
-use Rattle.path_walk.specs.declared.descriptor_call.FileUse.{FileUse}
-use Rattle.path_walk.specs.declared.descriptor_call.FileUse.TheVariants as file_use
+use Rattle.path_walk.specs.declared.descriptor_call.DataCall.{DataCall}
+use Rattle.path_walk.specs.declared.descriptor_call.DataCall.TheVariants as on_file
 use Rattle.path_walk.specs.declared.route.Spot.{Spot}
 use Rattle.path_walk.specs.declared.route.Station.{Station}
 use Rattle.path_walk.specs.declared.route.Route.{Route}
@@ -45,7 +45,7 @@ use Rattle.path_walk.specs.Store.{Backend, Store, cstep, group_at, names_at, wit
 use Rattle.path_walk.specs.PathMeaning.{path_start, resolve, root_of, spot_beside, start_of, station}
 use Rattle.path_walk.specs.Walk.{node_in}
 use Rattle.path_walk.specs.Plans.{Plan, replies, steps, walks, at_once, cell_of_id, fails, fault_in, unless_fault}
-use Rattle.path_walk.specs.DescriptorCalls.{number_plan, op_of_use, releases, use_plan}
+use Rattle.path_walk.specs.DescriptorCalls.{number_plan, op_of_data, releases, data_step_plan}
 use Rattle.path_walk.specs.OpenPlan.{absent_fault, added_plan, attached_by, attached_plan, description_in, directory_fault, drops, file_fault, fills, flags_fault, follows, found_plan, link_fault, looked_plan, looks, makes, meant_plan, mode_of, open_end, open_route, open_walks_max, opens_along, opens_by, opens_directory, opens_file, request_of, reserved_plan, route_to, unless_drops, unlinked_plan, unmakes}
 use Rattle.path_walk.specs.Calls.{last_step, plan_after, unlinked_by}
 use Rattle.path_walk.specs.Posix.{posix}
@@ -236,20 +236,20 @@ number_keeps (Answered (DescriptorsAnswer (fd_answer.Fault error))) = reply_keep
 number_keeps Cancelled = reply_keeps _
 number_keeps Closed = reply_keeps _
 
-no_make : (purpose : FileUse) (d : ℕ) → IsNoMake (op_of_use purpose d)
-no_make (file_use.Read count) d = tt
-no_make (file_use.Readat count offset) d = tt
-no_make (file_use.Write bytes) d = tt
-no_make (file_use.Writeat bytes offset) d = tt
-no_make (file_use.Seek offset whence) d = tt
-no_make (file_use.Cut size) d = tt
-no_make file_use.Size d = tt
+no_make : (purpose : DataCall) (d : ℕ) → IsNoMake (op_of_data purpose d)
+no_make (on_file.Read count) d = tt
+no_make (on_file.Pread count offset) d = tt
+no_make (on_file.Write bytes) d = tt
+no_make (on_file.Pwrite bytes offset) d = tt
+no_make (on_file.Seek offset whence) d = tt
+no_make (on_file.Ftruncate size) d = tt
+no_make on_file.Fstat d = tt
 
-use_keeps : (purpose : FileUse) (told : StepAnswer) → KeepsNamed (use_plan purpose told)
+use_keeps : (purpose : DataCall) (told : StepAnswer) → KeepsNamed (data_step_plan purpose told)
 use_keeps purpose (Answered (NamesAnswer given)) = reply_keeps _
 use_keeps purpose (Answered (FilesAnswer given)) = reply_keeps _
 use_keeps purpose (Answered (DescriptorsAnswer (fd_answer.Fd given))) = reply_keeps _
-use_keeps purpose (Answered (DescriptorsAnswer (fd_answer.File home named))) = files_step_keeps home named (op_of_use purpose named) _ (no_make purpose named) (λ told. reply_keeps _)
+use_keeps purpose (Answered (DescriptorsAnswer (fd_answer.File home named))) = files_step_keeps home named (op_of_data purpose named) _ (no_make purpose named) (λ told. reply_keeps _)
 use_keeps purpose (Answered (DescriptorsAnswer (fd_answer.Dir home named))) = reply_keeps _
 use_keeps purpose (Answered (DescriptorsAnswer fd_answer.Done)) = reply_keeps _
 use_keeps purpose (Answered (DescriptorsAnswer (fd_answer.Last home named))) = reply_keeps _
@@ -457,7 +457,7 @@ kept_holds = record {
   over = λ count given. reply_keeps given;
   size = λ count backend file so. files_step_keeps backend file (op.Sizeof file) _ tt (λ told. reply_keeps _);
   last = λ count backend o so. last_keeps backend o;
-  uses_files = λ number purpose. numbers_keep (fd.Look number) (use_plan purpose) (λ told. use_keeps purpose told);
+  uses_files = λ number purpose. numbers_keep (fd.Look number) (data_step_plan purpose) (λ told. use_keeps purpose told);
   takes_numbers = λ number. numbers_keep (fd.Take number) number_plan (λ told. number_keeps told);
   copies_numbers = λ number. numbers_keep (fd.Copy number) number_plan (λ told. number_keeps told);
   copies_onto = λ number target. numbers_keep (fd.Copyto number target) number_plan (λ told. number_keeps told);

@@ -1,22 +1,17 @@
 -- What holds of every store that calls lead to, each taken at once, from the store before the first call.
-use Rattle.std.specs.Prelude.{◌≡◌, ◌≢◌, ℕ, ◌%◌, ◌<◌, true, false, List, [], ◌∷◌, fold, map, Some, IsSome, slice_get}
+use Rattle.std.specs.Prelude.{◌≡◌, ◌≢◌, ℕ, ◌%◌, ◌<◌, true, false, List, [], fold, map, Some, IsSome, slice_get}
 use Rattle.wf_core.specs.Limits.{group_count}
 use Rattle.name_store.specs.declared.operation.Node.TheVariants.{File as FileNode}
-use Rattle.name_store.specs.NameTrees.{opening as names_opening}
 use Rattle.name_store.specs.Sound.{IsSound, node_at}
 use Rattle.file_store.specs.declared.descriptor_operation.Slot.TheVariants as slot
 use Rattle.file_store.specs.DescriptorMap.{opening as descriptors_opening, slot_at}
 use Rattle.file_store.specs.declared.file.File.{File}
-use Rattle.file_store.specs.FileGroups.{Group, description_at, file_at, is_open, opening as group_opening}
+use Rattle.file_store.specs.FileGroups.{Group, description_at, file_at, is_open}
 use Rattle.file_store.specs.Sound.{IsSound as IsSoundGroup, number_of}
 use Rattle.path_walk.specs.declared.call.Call.{Call}
-use Rattle.path_walk.specs.Store.{Backend, Store, group_at, names_at}
+use Rattle.path_walk.specs.Store.{Backend, Store, group_at, names_at, opening_backend}
 use Rattle.path_walk.specs.Posix.{posix}
 use Rattle.call_laws.specs.ErrorLaws.{DescriptionsAreThere}
-
--- a backend that has these mounts, and no file
-abbrev pub opening_backend : List (List ℕ × ℕ) → Backend
-opening_backend mounts = record { names = names_opening mounts; groups = map group_opening (0 ∷ 1 ∷ 2 ∷ 3 ∷ []) }
 
 -- the store before the first call: backends with these mounts, the root's first, and no number that names something
 abbrev pub opening_store : List (List (List ℕ × ℕ)) → Store

@@ -1,5 +1,6 @@
 pub mod NumberSetLemmas
 pub mod DescriptorMapLemmas
+pub mod UsedNumbers
 pub mod PagesLemmas
 pub mod WriteLemmas
 pub mod CutLemmas

@@ -14,10 +14,13 @@ pub struct Descriptors {
     slots: Vec<Slot>,
     /// The free numbers, so that the lowest is found without a look at each slot.
     free: NumberSet,
+    /// All numbers from this one on are free.
+    end: usize,
 }
 
 impl Model for Descriptors {
-    ghost use Rattle.std.specs.Prelude.{◌≡◌, map, length};
+    ghost use Rattle.std.specs.Prelude.{◌≡◌, ◌≤◌, true, drop, map, length};
+    ghost use Rattle.std.specs.List.{list_all};
     ghost use Rattle.wf_core.specs.Limits.{open_max};
     ghost use Rattle.file_store.specs.DescriptorMap.{Map, is_free};
 
@@ -26,7 +29,8 @@ impl Model for Descriptors {
     ghost view = { λ d. d.slots.items };
 
     ghost invariant = { λ d. (length d.slots.items ≡ open_max)
-        × (d.free ≡ map is_free d.slots.items) };
+        × (d.free ≡ map is_free d.slots.items) × (d.end ≤ open_max)
+        × (list_all is_free (drop d.end d.slots.items) ≡ true) };
 }
 
 impl Descriptors {
@@ -37,6 +41,7 @@ impl Descriptors {
         Ok(Descriptors {
             slots: vec![in alloc; Slot::Free; OPEN_MAX]?,
             free: NumberSet::full(),
+            end: 0,
         })
     }
 
@@ -96,9 +101,7 @@ impl Descriptors {
     fn is_open(&self, backend: BackendId, description: DescriptionId) -> bool
         ensures { result ≡ is_description_open backend description self.now }
     {
-        self.slots
-            .iter()
-            .any(|slot| slot.is_number_of(backend, description))
+        is_named_in(&self.slots[..self.end], backend, description)
     }
 
     fn set(&mut self, number: u32, slot: Slot)
@@ -113,6 +116,7 @@ impl Descriptors {
             self.free.insert(number);
         } else {
             self.free.remove(number);
+            self.end = self.end.max(number + 1);
         }
     }
 
@@ -240,4 +244,13 @@ impl Descriptors {
             }
         }
     }
+}
+
+/// Whether one of some slots names that description.
+fn is_named_in(slots: &[Slot], backend: BackendId, description: DescriptionId) -> bool
+    ensures { result ≡ is_description_open backend description slots.now }
+{
+    slots
+        .iter()
+        .any(|slot| slot.is_number_of(backend, description))
 }

@@ -22,7 +22,7 @@ use Rattle.path_walk.specs.declared.route.Route.{Route}
 use Rattle.path_walk.specs.declared.open_request.OpenFlags.{OpenFlags}
 use Rattle.path_walk.specs.declared.open_request.OpenRequest.{OpenRequest}
 use Rattle.path_walk.specs.declared.open_request.OpenRoute.{OpenRoute}
-use Rattle.path_walk.specs.declared.descriptor_call.FileUse.{FileUse}
+use Rattle.path_walk.specs.declared.descriptor_call.DataCall.{DataCall}
 use Rattle.path_walk.specs.declared.step.CellId.TheVariants.{Names as NamesCell, Descriptors as DescriptorsCell}
 use Rattle.path_walk.specs.declared.step.StoreOp.{StoreOp}
 use Rattle.path_walk.specs.declared.step.StoreOp.TheVariants.{Names as NamesOp, Files as FilesOp, Descriptors as DescriptorsOp}
@@ -34,7 +34,7 @@ use Rattle.path_walk.specs.declared.call.Reply.TheVariants as reply
 use Rattle.path_walk.specs.PathMeaning.{station, path_start, root_of, spot_beside, start_of}
 use Rattle.path_walk.specs.Walk.{node_in}
 use Rattle.path_walk.specs.Plans.{Plan, replies, steps, walks, fails, cell_of_id, fault_in, reply_to, unless_told, unless_fault}
-use Rattle.path_walk.specs.DescriptorCalls.{op_of_use, use_plan, uses, releases, number_plan, changes_numbers}
+use Rattle.path_walk.specs.DescriptorCalls.{op_of_data, data_step_plan, data_plan, releases, number_plan, changes_numbers}
 use Rattle.path_walk.specs.OpenPlan.{flags_fault, directory_fault, file_fault, link_fault, absent_fault, mode_of, route_to, open_route, drops, unless_drops, fills, opens_directory, attached_by, description_in, file_in, made_by, opens_file, follows, found_plan, meant_plan, unlinked_plan, unmakes, added_plan, makes, looked_plan, looks, open_end, open_walks_max, opens_along, request_of, opens_by, reserved_plan, opens}
 use Rattle.path_walk.proofs.Plans.{EndIs}
 
@@ -76,8 +76,8 @@ pub record Grows (P : ℕ → Plan → Type 0) (There : ℕ → Type 0) (Told : 
 module _ (P : ℕ → Plan → Type 0) (There : ℕ → Type 0) (Told : StoreOp → StepAnswer → Type 0) (grows : Grows P There Told) where
   -- Calls by a descriptor.
 
-  use_so : (op : FdOp) (purpose : FileUse) (given : StepAnswer) → Told (DescriptorsOp op) given → P 1 (use_plan purpose given)
-  use_so op purpose (Answered (DescriptorsAnswer (fd_answer.File backend description))) told = grows.on_files 0 backend description (op_of_use purpose description) _ (grows.named op backend description told) (λ given so. grows.over 0 (reply_to given))
+  use_so : (op : FdOp) (purpose : DataCall) (given : StepAnswer) → Told (DescriptorsOp op) given → P 1 (data_step_plan purpose given)
+  use_so op purpose (Answered (DescriptorsAnswer (fd_answer.File backend description))) told = grows.on_files 0 backend description (op_of_data purpose description) _ (grows.named op backend description told) (λ given so. grows.over 0 (reply_to given))
   use_so op purpose (Answered (DescriptorsAnswer (fd_answer.Dir backend directory))) told = grows.over 1 _
   use_so op purpose (Answered (DescriptorsAnswer (fd_answer.Fd number))) told = grows.over 1 _
   use_so op purpose (Answered (DescriptorsAnswer (fd_answer.FdLast number backend description))) told = grows.over 1 _
@@ -89,8 +89,8 @@ module _ (P : ℕ → Plan → Type 0) (There : ℕ → Type 0) (Told : StoreOp 
   use_so op purpose Cancelled told = grows.over 1 _
   use_so op purpose Closed told = grows.over 1 _
 
-  pub uses_so : (number : ℕ) (purpose : FileUse) → P 2 (uses number purpose)
-  uses_so number purpose = grows.on_numbers 1 (fd.Look number) (use_plan purpose) tt (λ given told. use_so (fd.Look number) purpose given told)
+  pub uses_so : (number : ℕ) (purpose : DataCall) → P 2 (data_plan number purpose)
+  uses_so number purpose = grows.on_numbers 1 (fd.Look number) (data_step_plan purpose) tt (λ given told. use_so (fd.Look number) purpose given told)
 
   releases_so : (backend description : ℕ) (given : Reply) → There backend → P 1 (releases backend description given)
   releases_so backend description given there = grows.on_files 0 backend description (Release description) _ there (λ told so. grows.over 0 (unless_told (fault_in told) given))

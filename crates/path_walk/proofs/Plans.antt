@@ -6,10 +6,10 @@ use Rattle.name_store.specs.declared.operation.NameOp.{NameOp}
 use Rattle.name_store.specs.declared.operation.NameOp.TheVariants.{Move, List as ListOp}
 use Rattle.file_store.specs.declared.file_operation.FileOp.TheVariants.{Sizeof}
 use Rattle.file_store.specs.declared.descriptor_operation.FdOp.TheVariants as fd
-use Rattle.path_walk.specs.declared.descriptor_call.FileUse.{FileUse}
-use Rattle.path_walk.specs.declared.descriptor_call.FileUse.TheVariants as file_use
+use Rattle.path_walk.specs.declared.descriptor_call.DataCall.{DataCall}
+use Rattle.path_walk.specs.declared.descriptor_call.DataCall.TheVariants as on_file
 use Rattle.path_walk.specs.declared.open_request.OpenFlags.{OpenFlags}
-use Rattle.path_walk.specs.DescriptorCalls.{changes_numbers, uses}
+use Rattle.path_walk.specs.DescriptorCalls.{changes_numbers, data_plan}
 use Rattle.path_walk.specs.OpenPlan.{opens}
 use Rattle.path_walk.specs.declared.part.Part.{Part}
 use Rattle.path_walk.specs.declared.route.Manner.{Manner}
@@ -47,7 +47,7 @@ pub record Holds (P : ℕ → Plan → Type 0) (There : ℕ → Type 0) : Type 0
   pub over : (count : ℕ) (given : Reply) → P count (replies given)
   pub size : (count backend file : ℕ) → There backend → P count (steps (cell_of_id backend file) (FilesOp (Sizeof file)) (λ given. replies (reply_to given)))
   pub last : (count backend : ℕ) (op : NameOp) → There backend → P count (last_step backend op)
-  pub uses_files : (number : ℕ) (purpose : FileUse) → P 2 (uses number purpose)
+  pub uses_files : (number : ℕ) (purpose : DataCall) → P 2 (data_plan number purpose)
   pub takes_numbers : (number : ℕ) → P 2 (changes_numbers (fd.Take number))
   pub copies_numbers : (number : ℕ) → P 2 (changes_numbers (fd.Copy number))
   pub copies_onto : (number target : ℕ) → P 2 (changes_numbers (fd.Copyto number target))
@@ -144,10 +144,10 @@ module _ (P : ℕ → Plan → Type 0) (There : ℕ → Type 0) (holds : Holds P
   each_call (call.Close number) = holds.takes_numbers number
   each_call (call.Dup number) = holds.copies_numbers number
   each_call (call.Dup2 number target) = holds.copies_onto number target
-  each_call (call.Read number count) = holds.uses_files number (file_use.Read count)
-  each_call (call.Pread number count offset) = holds.uses_files number (file_use.Readat count offset)
-  each_call (call.Write number bytes) = holds.uses_files number (file_use.Write bytes)
-  each_call (call.Pwrite number bytes offset) = holds.uses_files number (file_use.Writeat bytes offset)
-  each_call (call.Seek number offset whence) = holds.uses_files number (file_use.Seek offset whence)
-  each_call (call.Ftruncate number size) = holds.uses_files number (file_use.Cut size)
-  each_call (call.Fstat number) = holds.uses_files number file_use.Size
+  each_call (call.Read number count) = holds.uses_files number (on_file.Read count)
+  each_call (call.Pread number count offset) = holds.uses_files number (on_file.Pread count offset)
+  each_call (call.Write number bytes) = holds.uses_files number (on_file.Write bytes)
+  each_call (call.Pwrite number bytes offset) = holds.uses_files number (on_file.Pwrite bytes offset)
+  each_call (call.Seek number offset whence) = holds.uses_files number (on_file.Seek offset whence)
+  each_call (call.Ftruncate number size) = holds.uses_files number (on_file.Ftruncate size)
+  each_call (call.Fstat number) = holds.uses_files number on_file.Fstat

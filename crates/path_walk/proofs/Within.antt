@@ -22,7 +22,7 @@ use Rattle.path_walk.specs.Programs.{Program, finished, asks, IsWithin}
 use Rattle.path_walk.specs.Walk.{program_on, walk, course_on, node_in}
 use Rattle.path_walk.specs.Plans.{Plan, replies, steps, cell_of_id, program_of, reply_to}
 use Rattle.path_walk.specs.Calls.{plan_after, unlinked_by, last_step}
-use Rattle.path_walk.specs.DescriptorCalls.{changes_numbers, uses}
+use Rattle.path_walk.specs.DescriptorCalls.{changes_numbers, data_plan}
 use Rattle.path_walk.specs.OpenPlan.{opens}
 use Rattle.path_walk.specs.Posix.{program}
 use Rattle.file_store.specs.declared.file_operation.FileOp.TheVariants.{Sizeof}
@@ -148,7 +148,7 @@ within_holds = record {
   size = λ count backend file there. within_more (program_of (steps (cell_of_id backend file) (FilesOp (Sizeof file)) (λ given. replies (reply_to given)))) 1 (steps_of count) (let h = at_least count in omega (arith, h)) (λ answer. tt);
   last = λ count backend op there. within_more (program_of (last_step backend op)) 2 (steps_of count) (at_least count) (λ given. after_within backend given (unlinked_by given));
   along = λ count route next each. walk_within path_names_max route.parts route.manner route.slash symloop_max (root_of 0) (λ end. program_of (next end)) (steps_of count) (steps_of (suc count)) (omega arith) (λ end. within_more (program_of (next end)) (steps_of count) (names_left end + steps_of count) (omega arith) (each end (any_end end)));
-  uses_files = λ number purpose. within_more (program_of (uses number purpose)) 2 (steps_of 2) (omega arith) (uses_so Within Anywhere Anything within_grows number purpose);
+  uses_files = λ number purpose. within_more (program_of (data_plan number purpose)) 2 (steps_of 2) (omega arith) (uses_so Within Anywhere Anything within_grows number purpose);
   takes_numbers = λ number. within_more (program_of (changes_numbers (fd.Take number))) 2 (steps_of 2) (omega arith) (changes_so Within Anywhere Anything within_grows (fd.Take number) tt);
   copies_numbers = λ number. within_more (program_of (changes_numbers (fd.Copy number))) 2 (steps_of 2) (omega arith) (changes_so Within Anywhere Anything within_grows (fd.Copy number) tt);
   copies_onto = λ number target. within_more (program_of (changes_numbers (fd.Copyto number target))) 2 (steps_of 2) (omega arith) (changes_so Within Anywhere Anything within_grows (fd.Copyto number target) tt);

@@ -10,7 +10,7 @@ use Rattle.name_store.specs.declared.operation.NameOp.TheVariants as op
 use Rattle.name_store.specs.declared.operation.NameAnswer.TheVariants as answer
 use Rattle.file_store.specs.declared.file_operation.FileOp.TheVariants.{Sizeof, Unlinked}
 use Rattle.file_store.specs.declared.descriptor_operation.FdOp.TheVariants as fd
-use Rattle.path_walk.specs.declared.descriptor_call.FileUse.TheVariants as file_use
+use Rattle.path_walk.specs.declared.descriptor_call.DataCall.TheVariants as on_file
 use Rattle.path_walk.specs.declared.part.Part.{Part}
 use Rattle.path_walk.specs.declared.part.Part.TheVariants.{Here, Up, Down, TooLong}
 use Rattle.path_walk.specs.declared.route.Manner.TheVariants.{Follows, Stays}
@@ -31,7 +31,7 @@ use Rattle.path_walk.specs.declared.call.Call.TheVariants as call
 use Rattle.path_walk.specs.declared.call.Reply.TheVariants as reply
 use Rattle.path_walk.specs.PathMeaning.{path_start}
 use Rattle.path_walk.specs.Plans.{Plan, replies, steps, walks, fails, unless_fault, on_ok, ok_unless, whole_route, parent_route, cell_of_id, reply_to}
-use Rattle.path_walk.specs.DescriptorCalls.{changes_numbers, uses}
+use Rattle.path_walk.specs.DescriptorCalls.{changes_numbers, data_plan}
 use Rattle.path_walk.specs.OpenPlan.{opens}
 
 -- the file that a step on names has left without an entry, which its group is to know
@@ -162,10 +162,10 @@ plan (call.Open path flags) = opens path flags
 plan (call.Close number) = changes_numbers (fd.Take number)
 plan (call.Dup number) = changes_numbers (fd.Copy number)
 plan (call.Dup2 number target) = changes_numbers (fd.Copyto number target)
-plan (call.Read number count) = uses number (file_use.Read count)
-plan (call.Pread number count offset) = uses number (file_use.Readat count offset)
-plan (call.Write number bytes) = uses number (file_use.Write bytes)
-plan (call.Pwrite number bytes offset) = uses number (file_use.Writeat bytes offset)
-plan (call.Seek number offset whence) = uses number (file_use.Seek offset whence)
-plan (call.Ftruncate number size) = uses number (file_use.Cut size)
-plan (call.Fstat number) = uses number file_use.Size
+plan (call.Read number count) = data_plan number (on_file.Read count)
+plan (call.Pread number count offset) = data_plan number (on_file.Pread count offset)
+plan (call.Write number bytes) = data_plan number (on_file.Write bytes)
+plan (call.Pwrite number bytes offset) = data_plan number (on_file.Pwrite bytes offset)
+plan (call.Seek number offset whence) = data_plan number (on_file.Seek offset whence)
+plan (call.Ftruncate number size) = data_plan number (on_file.Ftruncate size)
+plan (call.Fstat number) = data_plan number on_file.Fstat

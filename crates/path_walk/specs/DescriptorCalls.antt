@@ -7,8 +7,8 @@ use Rattle.file_store.specs.declared.descriptor_operation.FdOp.TheVariants.{Look
 use Rattle.file_store.specs.declared.descriptor_operation.FdAnswer.TheVariants as fd_answer
 use Rattle.file_store.specs.declared.file_operation.FileOp.{FileOp}
 use Rattle.file_store.specs.declared.file_operation.FileOp.TheVariants as file_op
-use Rattle.path_walk.specs.declared.descriptor_call.FileUse.{FileUse}
-use Rattle.path_walk.specs.declared.descriptor_call.FileUse.TheVariants as file_use
+use Rattle.path_walk.specs.declared.descriptor_call.DataCall.{DataCall}
+use Rattle.path_walk.specs.declared.descriptor_call.DataCall.TheVariants as on_file
 use Rattle.path_walk.specs.declared.step.CellId.TheVariants.{Descriptors as DescriptorsCell}
 use Rattle.path_walk.specs.declared.step.StoreOp.TheVariants.{Files as FilesOp, Descriptors as DescriptorsOp}
 use Rattle.path_walk.specs.declared.step.StoreAnswer.TheVariants.{Descriptors as DescriptorsAnswer}
@@ -21,33 +21,33 @@ use Rattle.path_walk.specs.Plans.{Plan, replies, steps, cell_of_id, reply_to, fa
 -- A call on the file of a descriptor.
 
 -- its step on the file group
-abbrev pub op_of_use : FileUse → ℕ → FileOp
-op_of_use (file_use.Read count) description = file_op.Read description count
-op_of_use (file_use.Readat count offset) description = file_op.Readat description count offset
-op_of_use (file_use.Write bytes) description = file_op.Write description bytes
-op_of_use (file_use.Writeat bytes offset) description = file_op.Writeat description bytes offset
-op_of_use (file_use.Seek offset whence) description = file_op.Seek description offset whence
-op_of_use (file_use.Cut size) description = file_op.Cut description size
-op_of_use file_use.Size description = file_op.Size description
+abbrev pub op_of_data : DataCall → ℕ → FileOp
+op_of_data (on_file.Read count) description = file_op.Read description count
+op_of_data (on_file.Pread count offset) description = file_op.Readat description count offset
+op_of_data (on_file.Write bytes) description = file_op.Write description bytes
+op_of_data (on_file.Pwrite bytes offset) description = file_op.Writeat description bytes offset
+op_of_data (on_file.Seek offset whence) description = file_op.Seek description offset whence
+op_of_data (on_file.Ftruncate size) description = file_op.Cut description size
+op_of_data on_file.Fstat description = file_op.Size description
 
 -- what it replies of a directory's descriptor, which is open to read: `seek` and `ftruncate` are (own)
-abbrev pub reply_of_directory : FileUse → Reply
-reply_of_directory (file_use.Read count) = reply.Fault Eisdir
-reply_of_directory (file_use.Readat count offset) = reply.Fault Eisdir
-reply_of_directory (file_use.Write bytes) = reply.Fault Ebadf
-reply_of_directory (file_use.Writeat bytes offset) = reply.Fault Ebadf
-reply_of_directory (file_use.Seek offset whence) = reply.Fault Einval
-reply_of_directory (file_use.Cut size) = reply.Fault Einval
-reply_of_directory file_use.Size = reply.Dir
+abbrev pub reply_of_directory : DataCall → Reply
+reply_of_directory (on_file.Read count) = reply.Fault Eisdir
+reply_of_directory (on_file.Pread count offset) = reply.Fault Eisdir
+reply_of_directory (on_file.Write bytes) = reply.Fault Ebadf
+reply_of_directory (on_file.Pwrite bytes offset) = reply.Fault Ebadf
+reply_of_directory (on_file.Seek offset whence) = reply.Fault Einval
+reply_of_directory (on_file.Ftruncate size) = reply.Fault Einval
+reply_of_directory on_file.Fstat = reply.Dir
 
 -- by what the number names
-abbrev pub use_plan : FileUse → StepAnswer → Plan
-use_plan purpose (Answered (DescriptorsAnswer (fd_answer.File backend description))) = steps (cell_of_id backend description) (FilesOp (op_of_use purpose description)) (λ given. replies (reply_to given))
-use_plan purpose (Answered (DescriptorsAnswer (fd_answer.Dir backend directory))) = replies (reply_of_directory purpose)
-use_plan purpose given = replies (reply_to given)
+abbrev pub data_step_plan : DataCall → StepAnswer → Plan
+data_step_plan call (Answered (DescriptorsAnswer (fd_answer.File backend description))) = steps (cell_of_id backend description) (FilesOp (op_of_data call description)) (λ given. replies (reply_to given))
+data_step_plan call (Answered (DescriptorsAnswer (fd_answer.Dir backend directory))) = replies (reply_of_directory call)
+data_step_plan call given = replies (reply_to given)
 
-abbrev pub uses : ℕ → FileUse → Plan
-uses number purpose = steps DescriptorsCell (DescriptorsOp (Look number)) (use_plan purpose)
+abbrev pub data_plan : ℕ → DataCall → Plan
+data_plan number call = steps DescriptorsCell (DescriptorsOp (Look number)) (data_step_plan call)
 
 -- `close`, `dup` and `dup2`.
 

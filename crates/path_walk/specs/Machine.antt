@@ -18,13 +18,13 @@ use Rattle.path_walk.specs.declared.route.End.{End}
 use Rattle.path_walk.specs.declared.goal.Change.TheVariants as change
 use Rattle.path_walk.specs.declared.goal.Goal.{Goal}
 use Rattle.path_walk.specs.declared.goal.Reached.{Reached}
-use Rattle.path_walk.specs.declared.goal.Reached.TheVariants.{Turn as ReachedTurn, Trail as ReachedTrail}
+use Rattle.path_walk.specs.declared.goal.Reached.TheVariants.{Pause as ReachedPause, Trail as ReachedTrail}
 use Rattle.path_walk.specs.declared.trail.Advance.{Advance}
 use Rattle.path_walk.specs.declared.trail.Advance.TheVariants.{Asks, Ends}
 use Rattle.path_walk.specs.declared.goal.Goal.TheVariants.{Status, Text, Names, Entry, Open, MoveFrom, MoveTo}
 use Rattle.path_walk.specs.declared.trail.Trail.{Trail}
 use Rattle.path_walk.specs.declared.trail.Stage.{Stage}
-use Rattle.path_walk.specs.declared.trail.Stage.TheVariants.{Start, Walking, LastOnNames, LastOnFiles, Using, LastOnDescriptors, Releasing, OpeningFile}
+use Rattle.path_walk.specs.declared.trail.Stage.TheVariants.{Start, Walking, LastOnNames, LastOnFiles, Looking, LastOnDescriptors, Releasing, OpeningFile}
 use Rattle.name_store.specs.declared.operation.Node.{Node}
 use Rattle.path_walk.specs.declared.trail.Onward.{Onward}
 use Rattle.path_walk.specs.declared.trail.Onward.TheVariants.{Ends as EndsThere, Goes}
@@ -33,7 +33,7 @@ use Rattle.path_walk.specs.Programs.{Program, finished, asks}
 use Rattle.path_walk.specs.Walk.{node_in, course_on, program_on, walk}
 use Rattle.path_walk.specs.Plans.{Plan, fault_in, unless_told, parent_route, whole_route, program_of, reply_to}
 use Rattle.path_walk.specs.Calls.{status_plan, text_plan, list_plan, parent_plan, change_plan, move_plan, move_on, plan_after, unlinked_by, text_fault}
-use Rattle.path_walk.specs.DescriptorCalls.{number_plan, use_plan}
+use Rattle.path_walk.specs.DescriptorCalls.{number_plan, data_step_plan}
 use Rattle.path_walk.specs.OpenPlan.{open_end, open_route, opens_along}
 use Rattle.path_walk.specs.OpenStages.{stage_plan, text_route}
 use Rattle.path_walk.specs.Posix.{program}
@@ -126,7 +126,7 @@ Expects (Start call) None = Unit {0}
 Expects (Walking trail) (Some answer) = Unit {0}
 Expects (LastOnNames backend) (Some answer) = Unit {0}
 Expects LastOnFiles (Some answer) = Unit {0}
-Expects (Using purpose) (Some answer) = Unit {0}
+Expects (Looking call) (Some answer) = Unit {0}
 Expects LastOnDescriptors (Some answer) = Unit {0}
 Expects (Releasing given) (Some answer) = Unit {0}
 Expects (OpeningFile stage) (Some answer) = Unit {0}
@@ -138,7 +138,7 @@ resumed (Start call) answer = program call
 resumed (Walking trail) (Some answer) = program_on (course_of trail (node_in answer)) (walk_of trail) (goal_program trail.goal)
 resumed (LastOnNames backend) (Some answer) = program_of (plan_after backend answer (unlinked_by answer))
 resumed LastOnFiles (Some answer) = finished (reply_to answer)
-resumed (Using purpose) (Some answer) = program_of (use_plan purpose answer)
+resumed (Looking call) (Some answer) = program_of (data_step_plan call answer)
 resumed LastOnDescriptors (Some answer) = program_of (number_plan answer)
 resumed (Releasing given) (Some answer) = finished (unless_told (fault_in answer) given)
 resumed (OpeningFile stage) (Some answer) = program_of (stage_plan stage answer)
@@ -187,7 +187,7 @@ IsWalking stage = ⊥
 
 -- at the end of a goal's walk: the call's last step or its reply, or the walk that follows
 abbrev pub Reaches : Goal → Program → Reached → Type 0
-Reaches goal left (ReachedTurn turn) = Shows turn.need left turn.stage
+Reaches goal left (ReachedPause pause) = Shows pause.need left pause.stage
 Reaches goal left (ReachedTrail trail) = (left ≡ walk_of trail (way_of trail)) × (walks_after trail.goal < walks_after goal)
 
 -- a trail that is followed until it asks for a step, or to its end

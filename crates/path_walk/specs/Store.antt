@@ -1,8 +1,8 @@
 -- A store: all that the calls of a run change, and one step on it.
-use Rattle.std.specs.Prelude.{ℕ, List, [], slice_get, slice_set, unwrap_or}
+use Rattle.std.specs.Prelude.{ℕ, List, [], ◌∷◌, map, slice_get, slice_set, unwrap_or}
 use Rattle.name_store.specs.declared.operation.NameOp.{NameOp}
 use Rattle.name_store.specs.declared.operation.NameAnswer.TheVariants.{Gone}
-use Rattle.name_store.specs.NameTrees.{Tree, nstep}
+use Rattle.name_store.specs.NameTrees.{Tree, nstep, opening as names_opening}
 use Rattle.file_store.specs.declared.file_operation.FileOp.{FileOp}
 use Rattle.file_store.specs.FileGroups.{Group, fstep, opening as group_opening}
 use Rattle.file_store.specs.declared.descriptor_operation.FdOp.{FdOp}
@@ -18,6 +18,10 @@ use Rattle.path_walk.specs.declared.step.StoreAnswer.TheVariants.{Names as Names
 pub record Backend : Type 0 where
   pub names : Tree
   pub groups : List Group
+
+-- a backend that has these mounts, by their names and the numbers of their backends, and no file
+abbrev pub opening_backend : List (List ℕ × ℕ) → Backend
+opening_backend mounts = record { names = names_opening mounts; groups = map group_opening (0 ∷ 1 ∷ 2 ∷ 3 ∷ []) }
 
 -- the backends, the root's first, and what each descriptor names
 pub record Store : Type 0 where

@@ -1,52 +1,52 @@
 ghost use Rattle.std.specs.Prelude.{◌≡◌};
 ghost use Rattle.path_walk.specs.Plans.{fault_in, program_of, replies, unless_told};
-ghost use Rattle.path_walk.specs.DescriptorCalls.{changes_numbers, number_plan, op_of_use, releases, reply_of_directory, use_plan, uses};
+ghost use Rattle.path_walk.specs.DescriptorCalls.{changes_numbers, number_plan, op_of_data, releases, reply_of_directory, data_step_plan, data_plan};
 ghost use Rattle.path_walk.specs.Machine.{Shows};
 
 use crate::call::Reply;
 use crate::goal::step_on_file;
 use crate::reply::{fault_in, reply_to, unless_told};
 use crate::step::{CellId, StepAnswer, StoreAnswer, StoreOp};
-use crate::trail::{Stage, Turn, over, step};
+use crate::trail::{Pause, Stage, over, step};
 use file_store::{FdAnswer, FdOp, FileOp, Whence};
 use wf_core::{BackendId, DescriptionId, Errno, Text};
 
-/// What a call does with the file of a descriptor.
-#[derive(Drop)]
-pub enum FileUse {
+/// A call on the file of one descriptor, apart from the descriptor. Counts, offsets and sizes are in bytes.
+#[derive(Debug, Drop)]
+pub enum DataCall {
     Read(u32),
-    Readat(u32, i64),
+    Pread(u32, i64),
     Write(Text),
-    Writeat(Text, i64),
+    Pwrite(Text, i64),
     Seek(i64, Whence),
-    Cut(i64),
-    Size,
+    Ftruncate(i64),
+    Fstat,
 }
 
-impl FileUse {
+impl DataCall {
     fn op(self, description: DescriptionId) -> FileOp
-        ensures { result ≡ op_of_use self description }
+        ensures { result ≡ op_of_data self description }
     {
         match self {
-            FileUse::Read(count) => FileOp::Read { description, count },
-            FileUse::Readat(count, offset) => FileOp::Readat {
+            DataCall::Read(count) => FileOp::Read { description, count },
+            DataCall::Pread(count, offset) => FileOp::Readat {
                 description,
                 count,
                 offset,
             },
-            FileUse::Write(bytes) => FileOp::Write { description, bytes },
-            FileUse::Writeat(bytes, offset) => FileOp::Writeat {
+            DataCall::Write(bytes) => FileOp::Write { description, bytes },
+            DataCall::Pwrite(bytes, offset) => FileOp::Writeat {
                 description,
                 bytes,
                 offset,
             },
-            FileUse::Seek(offset, whence) => FileOp::Seek {
+            DataCall::Seek(offset, whence) => FileOp::Seek {
                 description,
                 offset,
                 whence,
             },
-            FileUse::Cut(size) => FileOp::Cut { description, size },
-            FileUse::Size => FileOp::Size(description),
+            DataCall::Ftruncate(size) => FileOp::Cut { description, size },
+            DataCall::Fstat => FileOp::Size(description),
         }
     }
 
@@ -55,27 +55,27 @@ impl FileUse {
         ensures { result ≡ reply_of_directory self.now }
     {
         match self {
-            FileUse::Read(_) | FileUse::Readat(_, _) => Reply::Fault(Errno::Eisdir),
-            FileUse::Write(_) | FileUse::Writeat(_, _) => Reply::Fault(Errno::Ebadf),
-            FileUse::Seek(_, _) | FileUse::Cut(_) => Reply::Fault(Errno::Einval),
-            FileUse::Size => Reply::Dir,
+            DataCall::Read(_) | DataCall::Pread(_, _) => Reply::Fault(Errno::Eisdir),
+            DataCall::Write(_) | DataCall::Pwrite(_, _) => Reply::Fault(Errno::Ebadf),
+            DataCall::Seek(_, _) | DataCall::Ftruncate(_) => Reply::Fault(Errno::Einval),
+            DataCall::Fstat => Reply::Dir,
         }
     }
 
     /// Asks what the number names.
-    pub(crate) fn begin(self, number: u32) -> Turn
-        ensures { Shows result.need (program_of (uses number self)) result.stage }
+    pub(crate) fn begin(self, number: u32) -> Pause
+        ensures { Shows result.need (program_of (data_plan number self)) result.stage }
     {
         step(
-            Stage::Using(self),
+            Stage::Looking(self),
             CellId::Descriptors,
             StoreOp::Descriptors(FdOp::Look(number)),
         )
     }
 
     /// What follows the answer to that.
-    pub(crate) fn turn(self, answer: StepAnswer) -> Turn
-        ensures { Shows result.need (program_of (use_plan self answer)) result.stage }
+    pub(crate) fn after_look(self, answer: StepAnswer) -> Pause
+        ensures { Shows result.need (program_of (data_step_plan self answer)) result.stage }
     {
         match &answer {
             StepAnswer::Answered(
@@ -99,7 +99,7 @@ impl FileUse {
 }
 
 /// Begins `close`, `dup` and `dup2`.
-pub(crate) fn change_numbers(op: FdOp) -> Turn
+pub(crate) fn change_numbers(op: FdOp) -> Pause
     ensures { Shows result.need (program_of (changes_numbers op)) result.stage }
 {
     step(
@@ -110,7 +110,7 @@ pub(crate) fn change_numbers(op: FdOp) -> Turn
 }
 
 /// What follows the answer to the step of `close`, `dup` and `dup2`.
-pub(crate) fn after_numbers(answer: StepAnswer) -> Turn
+pub(crate) fn after_numbers(answer: StepAnswer) -> Pause
     ensures { Shows result.need (program_of (number_plan answer)) result.stage }
 {
     match &answer {
@@ -136,7 +136,7 @@ pub(crate) fn after_numbers(answer: StepAnswer) -> Turn
 }
 
 /// Releases a description that has lost its last number.
-fn release(backend: BackendId, description: DescriptionId, reply: Reply) -> Turn
+fn release(backend: BackendId, description: DescriptionId, reply: Reply) -> Pause
     ensures { Shows result.need (program_of (releases backend description reply)) result.stage }
 {
     step(
@@ -147,7 +147,7 @@ fn release(backend: BackendId, description: DescriptionId, reply: Reply) -> Turn
 }
 
 /// What follows that.
-pub(crate) fn after_release(reply: Reply, answer: StepAnswer) -> Turn
+pub(crate) fn after_release(reply: Reply, answer: StepAnswer) -> Pause
     ensures { Shows result.need
         (program_of (replies (unless_told (fault_in answer) reply))) result.stage }
 {

@@ -11,7 +11,7 @@ use crate::open_stage::end_open;
 use crate::part::{LastName, Part};
 use crate::route::{End, Route, Spot, Station};
 use crate::step::{CellId, StoreOp};
-use crate::trail::{Stage, Trail, Turn, fault, over, step};
+use crate::trail::{Pause, Stage, Trail, fault, over, step};
 use file_store::FileOp;
 use name_store::NameOp;
 use wf_core::{BackendId, DirId, Errno, FileId, Name, PathText, SYMLINK_MAX};
@@ -124,7 +124,7 @@ impl Change {
         }
     }
 
-    fn turn(self, last: Option<Part>, slash: bool, spot: Spot) -> Turn
+    fn last_step(self, last: Option<Part>, slash: bool, spot: Spot) -> Pause
         ensures { Shows result.need (program_of (change_plan self last slash spot)) result.stage }
     {
         let name = match self.faults().name(last) {
@@ -163,7 +163,7 @@ fn last_fault(last: &Option<Part>, names: u32) -> Option<Errno>
     }
 }
 
-fn last_step(backend: u32, op: NameOp) -> Turn
+fn last_step(backend: u32, op: NameOp) -> Pause
     ensures { Shows result.need (program_of (last_step backend op)) result.stage }
 {
     step(
@@ -174,7 +174,7 @@ fn last_step(backend: u32, op: NameOp) -> Turn
 }
 
 /// The last step of a call on a file.
-pub(crate) fn step_on_file(backend: u32, file: u64, op: FileOp) -> Turn
+pub(crate) fn step_on_file(backend: u32, file: u64, op: FileOp) -> Pause
     ensures { (result.stage ≡ Stage.LastOnFiles)
         × (result.need ≡ Need.Step (cell_of_id backend file) (StoreOp.Files op)) }
 {
@@ -185,7 +185,7 @@ pub(crate) fn step_on_file(backend: u32, file: u64, op: FileOp) -> Turn
     )
 }
 
-fn move_turn(from: Spot, name: Name, slash: bool, to: Spot, new_name: Name) -> Turn
+fn move_step(from: Spot, name: Name, slash: bool, to: Spot, new_name: Name) -> Pause
     ensures { Shows result.need (program_of (move_step from name slash to new_name)) result.stage }
 {
     if from.backend != to.backend {
@@ -203,7 +203,7 @@ fn move_turn(from: Spot, name: Name, slash: bool, to: Spot, new_name: Name) -> T
     )
 }
 
-fn move_to(from: Spot, last: Option<Part>, slash: bool, new_last: Option<Part>, to: Spot) -> Turn
+fn move_to(from: Spot, last: Option<Part>, slash: bool, new_last: Option<Part>, to: Spot) -> Pause
     ensures { Shows result.need (program_of (move_plan from last slash new_last to)) result.stage }
 {
     let name = match LastFaults::of_move().name(last) {
@@ -211,12 +211,12 @@ fn move_to(from: Spot, last: Option<Part>, slash: bool, new_last: Option<Part>, 
         Err(errno) => return fault(errno),
     };
     match LastFaults::of_move().name(new_last) {
-        Ok(new_name) => move_turn(from, name, slash, to, new_name),
+        Ok(new_name) => move_step(from, name, slash, to, new_name),
         Err(errno) => fault(errno),
     }
 }
 
-fn status(end: End) -> Turn
+fn status(end: End) -> Pause
     ensures { Shows result.need (program_of (status_plan (Ok end))) result.stage }
 {
     match end {
@@ -226,7 +226,7 @@ fn status(end: End) -> Turn
     }
 }
 
-fn text(end: End) -> Turn
+fn text(end: End) -> Pause
     ensures { Shows result.need (program_of (text_plan (Ok end))) result.stage }
 {
     match end {
@@ -235,7 +235,7 @@ fn text(end: End) -> Turn
     }
 }
 
-fn names(start: u32, end: End) -> Turn
+fn names(start: u32, end: End) -> Pause
     ensures { Shows result.need (program_of (list_plan start (Ok end))) result.stage }
 {
     match end {
@@ -266,13 +266,13 @@ fn parent(last: &Option<Part>, end: End) -> Result<Spot, Errno>
 /// What follows the walk of a goal: the call's last step or its reply, or another walk.
 #[derive(Drop)]
 pub(crate) enum Reached {
-    Turn(Turn),
+    Pause(Pause),
     Trail(Trail),
 }
 
 impl Goal {
     /// What the call does where its walk has failed.
-    fn fail(self, errno: Errno) -> Turn
+    fn fail(self, errno: Errno) -> Pause
         ensures { Shows result.need (goal_program self (Err errno)) result.stage }
     {
         match self {
@@ -287,28 +287,28 @@ impl Goal {
     {
         let end = match end {
             Ok(end) => end,
-            Err(errno) => return Reached::Turn(self.fail(errno)),
+            Err(errno) => return Reached::Pause(self.fail(errno)),
         };
         match self {
-            Goal::Status => Reached::Turn(status(end)),
-            Goal::Text => Reached::Turn(text(end)),
-            Goal::Names(start) => Reached::Turn(names(start, end)),
-            Goal::Entry(change, last, slash) => Reached::Turn(match parent(&last, end) {
-                Ok(spot) => change.turn(last, slash, spot),
+            Goal::Status => Reached::Pause(status(end)),
+            Goal::Text => Reached::Pause(text(end)),
+            Goal::Names(start) => Reached::Pause(names(start, end)),
+            Goal::Entry(change, last, slash) => Reached::Pause(match parent(&last, end) {
+                Ok(spot) => change.last_step(last, slash, spot),
                 Err(errno) => fault(errno),
             }),
             Goal::MoveTo(from, last, slash, new_last) => {
-                Reached::Turn(match parent(&new_last, end) {
+                Reached::Pause(match parent(&new_last, end) {
                     Ok(to) => move_to(from, last, slash, new_last, to),
                     Err(errno) => fault(errno),
                 })
             }
             Goal::Open(walks, request, name) => {
-                Reached::Turn(end_open(walks, request, name, Ok(end)))
+                Reached::Pause(end_open(walks, request, name, Ok(end)))
             }
             Goal::MoveFrom(last, slash, new) => match parent(&last, end) {
                 Ok(from) => move_from(last, slash, new, from),
-                Err(errno) => Reached::Turn(fault(errno)),
+                Err(errno) => Reached::Pause(fault(errno)),
             },
         }
     }
@@ -319,7 +319,7 @@ fn move_from(last: Option<Part>, slash: bool, new: Result<Route, Errno>, from: S
         (program_of (move_on last slash new from)) result }
 {
     match new {
-        Err(errno) => Reached::Turn(fault(errno)),
+        Err(errno) => Reached::Pause(fault(errno)),
         Ok(route) => {
             let goal = Goal::MoveTo(from, last, slash | route.slash, route.last);
             Reached::Trail(Trail::new(

@@ -3,7 +3,7 @@
 
 pub use backends::{Backends, perform};
 pub use call::{Call, Need, Reply};
-pub use descriptor_call::FileUse;
+pub use descriptor_call::DataCall;
 pub use goal::{Change, LastFaults};
 pub use laws::{calls_end, calls_stay_among, steps_are_the_call};
 pub use machine::CallMachine;

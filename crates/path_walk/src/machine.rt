@@ -7,7 +7,7 @@ ghost use Rattle.path_walk.specs.declared.trail.Stage.{Stage};
 ghost use Rattle.path_walk.specs.declared.trail.Stage.TheVariants.{Start};
 
 use crate::call::{Call, Need};
-use crate::descriptor_call::{FileUse, after_numbers, after_release, change_numbers};
+use crate::descriptor_call::{DataCall, after_numbers, after_release, change_numbers};
 use crate::goal::{Change, Goal, step_on_file, text_fault};
 use crate::open_request::OpenRoute;
 use crate::open_stage::open;
@@ -15,7 +15,7 @@ use crate::part::Part;
 use crate::reply::reply_to;
 use crate::route::{End, Manner, Route, Station};
 use crate::step::{StepAnswer, StoreAnswer};
-use crate::trail::{Advance, Onward, Stage, Trail, Turn, fault, node_in, over};
+use crate::trail::{Advance, Onward, Pause, Stage, Trail, fault, node_in, over};
 use file_store::{FdOp, FileOp};
 use name_store::NameAnswer;
 use std::alloc::{AllocError, Global};
@@ -75,11 +75,11 @@ impl CallMachine {
         Ok(self.take(begin(stage, route, new, to_open)))
     }
 
-    fn take(&mut self, turn: Turn) -> Need
-        ensures { (self.new ≡ turn.stage) × (result ≡ turn.need) }
+    fn take(&mut self, pause: Pause) -> Need
+        ensures { (self.new ≡ pause.stage) × (result ≡ pause.need) }
     {
-        self.stage = turn.stage;
-        turn.need
+        self.stage = pause.stage;
+        pause.need
     }
 
     fn resume(&mut self, answer: StepAnswer) -> Result<Need, AllocError>
@@ -155,7 +155,7 @@ impl CallMachine {
 }
 
 /// What follows the answer to a step that is no walk's and no `open`'s.
-fn after_step(stage: Stage, answer: StepAnswer) -> Turn
+fn after_step(stage: Stage, answer: StepAnswer) -> Pause
     requires waits { Expects stage (Some answer) }
     requires plain { IsPlain stage }
     ensures { Shows result.need (resumed stage (Some answer)) result.stage }
@@ -163,7 +163,7 @@ fn after_step(stage: Stage, answer: StepAnswer) -> Turn
     match stage {
         Stage::LastOnNames(backend) => after_names(backend, answer),
         Stage::LastOnFiles => over(reply_to(answer)),
-        Stage::Using(purpose) => purpose.turn(answer),
+        Stage::Looking(call) => call.after_look(answer),
         Stage::LastOnDescriptors => after_numbers(answer),
         Stage::Releasing(reply) => after_release(reply, answer),
         _ => unreachable!(),
@@ -171,19 +171,19 @@ fn after_step(stage: Stage, answer: StepAnswer) -> Turn
 }
 
 /// What follows the answer to a step of an `open`.
-fn after_open_step(stage: Stage, answer: StepAnswer, route: Option<OpenRoute>) -> Turn
+fn after_open_step(stage: Stage, answer: StepAnswer, route: Option<OpenRoute>) -> Pause
     requires opening { IsOpeningFile stage }
     requires route { route ≡ link_route stage answer }
     ensures { Shows result.need (resumed stage (Some answer)) result.stage }
 {
     match stage {
-        Stage::OpeningFile(stage) => stage.turn(answer, route),
+        Stage::OpeningFile(stage) => stage.after(answer, route),
         _ => unreachable!(),
     }
 }
 
 /// What follows the end of a walk.
-fn after_walk(stage: Stage, end: Result<End, Errno>) -> Turn
+fn after_walk(stage: Stage, end: Result<End, Errno>) -> Pause
     requires { IsWalking stage }
     ensures { Shows result.need (left_at stage end) result.stage }
 {
@@ -269,7 +269,7 @@ fn begin(
     route: Option<Result<Route, Errno>>,
     new: Option<Result<Route, Errno>>,
     to_open: Option<Result<OpenRoute, Errno>>,
-) -> Turn
+) -> Pause
     requires { IsStart stage route new to_open }
     ensures { Shows result.need (resumed stage None) result.stage }
 {
@@ -283,7 +283,7 @@ fn begin(
 }
 
 /// Begins a call with its first step.
-fn begin_step(call: Call, to_open: Option<Result<OpenRoute, Errno>>) -> Turn
+fn begin_step(call: Call, to_open: Option<Result<OpenRoute, Errno>>) -> Pause
     requires first { None ≡ route_of call }
     requires open { to_open ≡ open_route_of call }
     ensures { Shows result.need (program call) result.stage }
@@ -294,7 +294,7 @@ fn begin_step(call: Call, to_open: Option<Result<OpenRoute, Errno>>) -> Turn
     }
 }
 
-fn begin_open(call: Call, route: Result<OpenRoute, Errno>) -> Turn
+fn begin_open(call: Call, route: Result<OpenRoute, Errno>) -> Pause
     requires { Some route ≡ open_route_of call }
     ensures { Shows result.need (program call) result.stage }
 {
@@ -305,7 +305,7 @@ fn begin_open(call: Call, route: Result<OpenRoute, Errno>) -> Turn
 }
 
 /// Begins a call on what a number names.
-fn begin_on_number(call: Call) -> Turn
+fn begin_on_number(call: Call) -> Pause
     requires first { None ≡ route_of call }
     requires open { None ≡ open_route_of call }
     ensures { Shows result.need (program call) result.stage }
@@ -314,31 +314,31 @@ fn begin_on_number(call: Call) -> Turn
         Call::Close(number) => change_numbers(FdOp::Take(number)),
         Call::Dup(number) => change_numbers(FdOp::Copy(number)),
         Call::Dup2 { number, target } => change_numbers(FdOp::Copyto { number, target }),
-        Call::Read { number, count } => FileUse::Read(count).begin(number),
+        Call::Read { number, count } => DataCall::Read(count).begin(number),
         Call::Pread {
             number,
             count,
             offset,
-        } => FileUse::Readat(count, offset).begin(number),
-        Call::Write { number, bytes } => FileUse::Write(bytes).begin(number),
+        } => DataCall::Pread(count, offset).begin(number),
+        Call::Write { number, bytes } => DataCall::Write(bytes).begin(number),
         Call::Pwrite {
             number,
             bytes,
             offset,
-        } => FileUse::Writeat(bytes, offset).begin(number),
+        } => DataCall::Pwrite(bytes, offset).begin(number),
         Call::Seek {
             number,
             offset,
             whence,
-        } => FileUse::Seek(offset, whence).begin(number),
-        Call::Ftruncate { number, size } => FileUse::Cut(size).begin(number),
-        Call::Fstat(number) => FileUse::Size.begin(number),
+        } => DataCall::Seek(offset, whence).begin(number),
+        Call::Ftruncate { number, size } => DataCall::Ftruncate(size).begin(number),
+        Call::Fstat(number) => DataCall::Fstat.begin(number),
         _ => unreachable!(),
     }
 }
 
 /// Begins a call along its routes.
-fn begin_walk(call: Call, route: Result<Route, Errno>, new: Option<Result<Route, Errno>>) -> Turn
+fn begin_walk(call: Call, route: Result<Route, Errno>, new: Option<Result<Route, Errno>>) -> Pause
     requires first { Some route ≡ route_of call }
     requires other { new ≡ new_route_of call }
     ensures { Shows result.need (program call) result.stage }
@@ -379,7 +379,7 @@ fn unlinked_by(answer: &StepAnswer) -> Option<FileId>
 }
 
 /// What follows the last step on the names of a backend.
-fn after_names(backend: u32, answer: StepAnswer) -> Turn
+fn after_names(backend: u32, answer: StepAnswer) -> Pause
     ensures { Shows result.need (program_of (plan_after backend answer (unlinked_by answer)))
         result.stage }
 {

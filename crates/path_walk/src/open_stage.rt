@@ -16,7 +16,7 @@ use crate::part::LastName;
 use crate::reply::{fault_in, reply_to};
 use crate::route::{End, Spot, Station};
 use crate::step::{CellId, StepAnswer, StoreAnswer, StoreOp};
-use crate::trail::{Stage, Trail, Turn, fault, node_in, over, step};
+use crate::trail::{Pause, Stage, Trail, fault, node_in, over, step};
 use file_store::{FdAnswer, FdOp, FileAnswer, FileOp};
 use name_store::{NameAnswer, NameOp, Node};
 use std::alloc::{AllocError, Global};
@@ -59,7 +59,7 @@ pub(crate) enum OpenStage {
 }
 
 /// A failure, which frees the number.
-fn drop_number(number: u32, errno: Errno) -> Turn
+fn drop_number(number: u32, errno: Errno) -> Pause
     ensures { Shows result.need (program_of (drops number errno)) result.stage }
 {
     step(
@@ -69,13 +69,13 @@ fn drop_number(number: u32, errno: Errno) -> Turn
     )
 }
 
-fn drop_by(number: u32, answer: &StepAnswer) -> Turn
+fn drop_by(number: u32, answer: &StepAnswer) -> Pause
     ensures { Shows result.need (program_of (drops_by number answer.now)) result.stage }
 {
     drop_number(number, fault_in(answer).unwrap_or(Errno::Enoent))
 }
 
-fn fill(number: u32, op: FdOp) -> Turn
+fn fill(number: u32, op: FdOp) -> Pause
     ensures { Shows result.need (program_of (fills number op)) result.stage }
 {
     step(
@@ -85,7 +85,7 @@ fn fill(number: u32, op: FdOp) -> Turn
     )
 }
 
-fn after_fill(number: u32, answer: StepAnswer) -> Turn
+fn after_fill(number: u32, answer: StepAnswer) -> Pause
     ensures { Shows result.need
         (program_of (unless_drops number (fault_in answer) (replies (Reply.Fd number))))
         result.stage }
@@ -96,7 +96,7 @@ fn after_fill(number: u32, answer: StepAnswer) -> Turn
     }
 }
 
-fn fill_file(number: u32, backend: u32, description: DescriptionId) -> Turn
+fn fill_file(number: u32, backend: u32, description: DescriptionId) -> Pause
     ensures { Shows result.need
         (program_of (fills number (FdOp.FillFile number backend description))) result.stage }
 {
@@ -134,7 +134,7 @@ fn file_in(answer: &StepAnswer) -> Option<(FileId, DescriptionId)>
     }
 }
 
-fn after_attach(number: u32, backend: u32, answer: StepAnswer) -> Turn
+fn after_attach(number: u32, backend: u32, answer: StepAnswer) -> Pause
     ensures { Shows result.need (program_of (attached_plan number backend answer)) result.stage }
 {
     match description_in(&answer) {
@@ -143,7 +143,7 @@ fn after_attach(number: u32, backend: u32, answer: StepAnswer) -> Turn
     }
 }
 
-fn open_directory(request: OpenRequest, there: Spot) -> Turn
+fn open_directory(request: OpenRequest, there: Spot) -> Pause
     ensures { Shows result.need (program_of (opens_directory request there)) result.stage }
 {
     match request.directory_fault() {
@@ -159,7 +159,7 @@ fn open_directory(request: OpenRequest, there: Spot) -> Turn
     }
 }
 
-fn open_file(request: OpenRequest, backend: u32, file: FileId) -> Turn
+fn open_file(request: OpenRequest, backend: u32, file: FileId) -> Pause
     ensures { Shows result.need (program_of (opens_file request backend file)) result.stage }
 {
     match request.file_fault() {
@@ -178,7 +178,7 @@ fn open_file(request: OpenRequest, backend: u32, file: FileId) -> Turn
 
 /// Walks along a path, or a link's text.
 #[tactic(auto, unfolding(crate::specs::OpenPlan::opens_along))]
-fn open_along(walks: u32, request: OpenRequest, from: Station, route: OpenRoute) -> Turn
+fn open_along(walks: u32, request: OpenRequest, from: Station, route: OpenRoute) -> Pause
     ensures { Shows result.need (program_of (opens_along walks request from route)) result.stage }
 {
     if walks == 0 {
@@ -195,7 +195,7 @@ pub(crate) fn end_open(
     request: OpenRequest,
     name: Option<LastName>,
     end: Result<End, Errno>,
-) -> Turn
+) -> Pause
     ensures { Shows result.need
         (program_of (open_end (opens_along walks) request name end)) result.stage }
 {
@@ -212,7 +212,7 @@ pub(crate) fn end_open(
     }
 }
 
-fn look_up(walks: u32, request: OpenRequest, station: Station, name: LastName) -> Turn
+fn look_up(walks: u32, request: OpenRequest, station: Station, name: LastName) -> Pause
     ensures { Shows result.need
         (program_of (looks (opens_along walks) request station.names station.links station.spot name))
         result.stage }
@@ -238,14 +238,14 @@ fn look_up(walks: u32, request: OpenRequest, station: Station, name: LastName) -
 }
 
 impl AtLastName {
-    fn fail(self, errno: Errno) -> Turn
+    fn fail(self, errno: Errno) -> Pause
         ensures { Shows result.need (program_of (drops self.request.number errno)) result.stage }
     {
         drop_number(self.request.number, errno)
     }
 
     /// Follows a link. Its own slash asks for a directory too.
-    fn follow(self, text: PathText, route: Option<OpenRoute>) -> Turn
+    fn follow(self, text: PathText, route: Option<OpenRoute>) -> Pause
         requires { route ≡ Some (route_to text) }
         ensures { Shows result.need (program_of (follows (opens_along self.walks) self.station.links
             self.request self.station.names self.station.spot text)) result.stage }
@@ -267,7 +267,7 @@ impl AtLastName {
     }
 
     /// What stands under the name.
-    fn open_node(self, node: Node, route: Option<OpenRoute>) -> Turn
+    fn open_node(self, node: Node, route: Option<OpenRoute>) -> Pause
         requires { route ≡ route_at node }
         ensures { Shows result.need
             (program_of (found_plan (opens_along self.walks) self.request self.station node))
@@ -292,7 +292,7 @@ impl AtLastName {
         name: Name,
         found: Result<Option<Node>, Errno>,
         route: Option<OpenRoute>,
-    ) -> Turn
+    ) -> Pause
         requires { route ≡ route_in found }
         ensures { Shows result.need
             (program_of (looked_plan (opens_along self.walks) self.request self.station name found))
@@ -309,7 +309,7 @@ impl AtLastName {
     }
 
     /// Makes a file beside the directory, in the group that is the number modulo `GROUP_COUNT`.
-    fn make(self, name: Name) -> Turn
+    fn make(self, name: Name) -> Pause
         ensures { Shows result.need
             (program_of (makes (opens_along self.walks) self.request self.station name))
             result.stage }
@@ -321,7 +321,7 @@ impl AtLastName {
         )
     }
 
-    fn made(self, name: Name, answer: StepAnswer) -> Turn
+    fn made(self, name: Name, answer: StepAnswer) -> Pause
         ensures { Shows result.need
             (program_of (made_plan (opens_along self.walks) self.request self.station name answer))
             result.stage }
@@ -340,7 +340,7 @@ impl AtLastName {
         }
     }
 
-    fn added(self, file: FileId, description: DescriptionId, answer: StepAnswer) -> Turn
+    fn added(self, file: FileId, description: DescriptionId, answer: StepAnswer) -> Pause
         ensures { Shows result.need (program_of
             (added_plan (opens_along self.walks) self.request self.station file description answer))
             result.stage }
@@ -360,7 +360,7 @@ impl AtLastName {
     }
 
     /// Unlinks a file that was made in vain.
-    fn unmake(self, file: FileId, description: DescriptionId, found: Result<Node, Errno>) -> Turn
+    fn unmake(self, file: FileId, description: DescriptionId, found: Result<Node, Errno>) -> Pause
         ensures { Shows result.need (program_of
             (unmakes (opens_along self.walks) self.request self.station file description found))
             result.stage }
@@ -377,7 +377,7 @@ impl AtLastName {
         description: DescriptionId,
         found: Result<Node, Errno>,
         answer: StepAnswer,
-    ) -> Turn
+    ) -> Pause
         ensures { Shows result.need (program_of
             (unlinked_plan (opens_along self.walks) self.request self.station description found answer))
             result.stage }
@@ -397,7 +397,7 @@ impl AtLastName {
         found: Result<Node, Errno>,
         answer: StepAnswer,
         route: Option<OpenRoute>,
-    ) -> Turn
+    ) -> Pause
         requires { route ≡ text_route (OpenStage.Unmaking self found) answer }
         ensures { Shows result.need (program_of (unless_drops self.request.number (fault_in answer)
             (meant_plan (opens_along self.walks) self.request self.station found))) result.stage }
@@ -413,7 +413,7 @@ impl AtLastName {
 }
 
 /// Begins an `open`.
-pub(crate) fn open(flags: OpenFlags, route: Result<OpenRoute, Errno>) -> Turn
+pub(crate) fn open(flags: OpenFlags, route: Result<OpenRoute, Errno>) -> Pause
     ensures { Shows result.need (program_of (unless_fault (flags_fault flags)
         (steps CellId.Descriptors (StoreOp.Descriptors FdOp.Reserve)
         (reserved_plan flags route)))) result.stage }
@@ -428,7 +428,7 @@ pub(crate) fn open(flags: OpenFlags, route: Result<OpenRoute, Errno>) -> Turn
     )
 }
 
-fn reserved(flags: OpenFlags, route: Result<OpenRoute, Errno>, answer: StepAnswer) -> Turn
+fn reserved(flags: OpenFlags, route: Result<OpenRoute, Errno>, answer: StepAnswer) -> Pause
     ensures { Shows result.need (program_of (reserved_plan flags route answer)) result.stage }
 {
     match answer {
@@ -439,7 +439,7 @@ fn reserved(flags: OpenFlags, route: Result<OpenRoute, Errno>, answer: StepAnswe
     }
 }
 
-fn open_by(number: u32, flags: OpenFlags, route: Result<OpenRoute, Errno>) -> Turn
+fn open_by(number: u32, flags: OpenFlags, route: Result<OpenRoute, Errno>) -> Pause
     ensures { Shows result.need (program_of (opens_by number flags route)) result.stage }
 {
     match route {
@@ -483,7 +483,7 @@ impl OpenStage {
     }
 
     /// What follows the answer to the step.
-    pub(crate) fn turn(self, answer: StepAnswer, route: Option<OpenRoute>) -> Turn
+    pub(crate) fn after(self, answer: StepAnswer, route: Option<OpenRoute>) -> Pause
         requires { route ≡ text_route self answer }
         ensures { Shows result.need (program_of (stage_plan self answer)) result.stage }
     {

@@ -5,7 +5,7 @@ ghost use Rattle.path_walk.specs.Walk.{node_in};
 ghost use Rattle.path_walk.specs.Machine.{Advances, Meets, Shows, course_along, course_of, goal_program, trail_from, walk_of, way_of, way_up, with_one_name_less};
 
 use crate::call::{Call, Need, Reply};
-use crate::descriptor_call::FileUse;
+use crate::descriptor_call::DataCall;
 use crate::goal::{Goal, Reached};
 use crate::open_stage::OpenStage;
 use crate::part::{Part, Parts};
@@ -39,7 +39,7 @@ pub(crate) enum Stage {
     /// It waits for the answer to its last step on files.
     LastOnFiles,
     /// It waits for what the number names whose file it is to use.
-    Using(FileUse),
+    Looking(DataCall),
     /// It waits for the answer to a step that frees or copies a number.
     LastOnDescriptors,
     /// It waits for the release of a description, and has that reply.
@@ -49,9 +49,9 @@ pub(crate) enum Stage {
     Over,
 }
 
-/// A stage and what it needs.
+/// Where a call stands between two steps: its stage, and what it needs.
 #[derive(Drop)]
-pub(crate) struct Turn {
+pub(crate) struct Pause {
     pub(crate) stage: Stage,
     pub(crate) need: Need,
 }
@@ -72,31 +72,31 @@ pub(crate) enum Onward {
 }
 
 /// The end of a call.
-pub(crate) fn over(reply: Reply) -> Turn
+pub(crate) fn over(reply: Reply) -> Pause
     ensures { Shows result.need (finished reply) result.stage }
 {
-    Turn {
+    Pause {
         stage: Stage::Over,
         need: Need::Done(reply),
     }
 }
 
-pub(crate) fn fault(errno: Errno) -> Turn
+pub(crate) fn fault(errno: Errno) -> Pause
     ensures { Shows result.need (finished (Reply.Fault errno)) result.stage }
 {
     over(Reply::Fault(errno))
 }
 
-fn turn_of(stage: Stage, need: Need) -> Turn
+fn pause_of(stage: Stage, need: Need) -> Pause
     ensures { (result.stage ≡ stage) × (result.need ≡ need) }
 {
-    Turn { stage, need }
+    Pause { stage, need }
 }
 
-pub(crate) fn step(stage: Stage, cell: CellId, op: StoreOp) -> Turn
+pub(crate) fn step(stage: Stage, cell: CellId, op: StoreOp) -> Pause
     ensures { (result.stage ≡ stage) × (result.need ≡ Need.Step cell op) }
 {
-    turn_of(stage, Need::Step(cell, op))
+    pause_of(stage, Need::Step(cell, op))
 }
 
 /// What stands under a name, by the answer to a look-up or to a question for the parent.
@@ -129,28 +129,28 @@ impl Trail {
     }
 
     /// Follows the trail to the next step of the call.
-    pub(crate) fn proceed(self) -> Turn
+    pub(crate) fn proceed(self) -> Pause
         ensures { Shows result.need (walk_of self (way_of self)) result.stage }
     {
         let mut trail = self;
         loop {
             let end = match trail.advance() {
-                Advance::Asks(need) => return turn_of(Stage::Walking(trail), need),
+                Advance::Asks(need) => return pause_of(Stage::Walking(trail), need),
                 Advance::Ends(end) => end,
             };
             match trail.goal.reach(end) {
-                Reached::Turn(turn) => return turn,
+                Reached::Pause(pause) => return pause,
                 Reached::Trail(next) => trail = next,
             }
         }
     }
 
     /// The end of the walk.
-    pub(crate) fn finish(self, end: Result<End, Errno>) -> Turn
+    pub(crate) fn finish(self, end: Result<End, Errno>) -> Pause
         ensures { Shows result.need (goal_program self.goal end) result.stage }
     {
         match self.goal.reach(end) {
-            Reached::Turn(turn) => turn,
+            Reached::Pause(pause) => pause,
             Reached::Trail(next) => next.proceed(),
         }
     }

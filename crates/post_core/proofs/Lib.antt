@@ -43,3 +43,4 @@ pub mod SendRefs
 pub mod SendTurns
 pub mod Settled
 pub mod Numbers
+pub mod Trying

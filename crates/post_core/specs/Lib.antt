@@ -20,5 +20,8 @@ pub mod SendSteps
 pub mod ServingSteps
 pub mod Steps
 pub mod TableLaws
+pub mod TryLaws
+pub mod TryParts
+pub mod TrySteps
 pub mod Views
 pub mod Words

@@ -37,6 +37,7 @@ module _ {M : Type 0} where
     freed = replicate places 0;
     tried = replicate places 0;
     full = [];
+    last_failed = None;
   }
 
   -- the passes of the senders from number s on

@@ -10,6 +10,7 @@ use crate::closing_steps::{drop_own, look_closed};
 use crate::meant::Meant;
 use crate::owner::{Exec, Owner};
 use crate::post::Post;
+use std::sync::Wait;
 
 impl<J: Meant> Owner<J> {
     /// Begins to close the target: drops the owner's reference. It takes no memory.
@@ -45,6 +46,14 @@ impl<J: Meant> Exec<J> {
 }
 
 impl<J: Meant> Closing<J> {
+    /// Waits until the last reference is given back, until somebody wakes the owner for another reason, or for no reason.
+    pub fn park<R: Wait>(self, rt: &R, _post: &Post<J>) -> Closing<J>
+        ensures { result ≡ self }
+    {
+        self.hold.parker.park(rt);
+        self
+    }
+
     /// Looks how many references are left. With none the target is closed. It takes no memory.
     pub fn look(self, post: &Post<J>) -> ClosingLook<J>
         requires { IsClosingOf post.now self }

@@ -27,7 +27,7 @@ pub struct Closed<J: Meant> {
     pub(crate) hold: OwnerHold<J>,
     /// The place that it empties, if it is at one.
     pub(crate) left: Option<u32>,
-    ghost is_closed: { IsEnding IsClosed left
+    pub ghost is_closed: { IsEnding IsClosed left
         (starts_of hold.jobs.items) (counts_of hold.jobs.items) hold.got hold.seat.me.0 },
     ghost empty: { (hold.seat.me.1 ≡ []) × (length hold.jobs.items ≡ hold.seat.table_id.slots) },
     ghost near: { ForSome left (λ place. place < hold.seat.table_id.slots) },

@@ -5,6 +5,7 @@ ghost use Rattle.std.specs.Prelude.{ℕ};
 ghost use Rattle.post_core.specs.LifeLaws.{ClaimsPlace, ClonesUse, CreatesPlace, LooksNote, MarksLife, ReleasesUse};
 ghost use Rattle.post_core.specs.SendLaws.{AddsRef, DropsRef, GivesPlace, LoadsRefs, PutsJob, SwapsNote, TakesPlace};
 ghost use Rattle.post_core.specs.TableLaws.{IsAlwaysSound, ShowsOneWorld};
+ghost use Rattle.post_core.specs.TryLaws.{MissesRef, MissesTurn};
 
 use crate::meant::Meant;
 
@@ -21,6 +22,16 @@ pub fn table_is_always_sound<J: Meant>()
 /// A load of the references is LoadRefs.
 pub fn load_refs_is_its_event<J: Meant>()
     ensures { (target : ℕ) → LoadsRefs J.meaning (J.suits target) }
+{}
+
+/// An exchange of the references that failed where it was tried once is LoadRefs.
+pub fn missed_ref_is_a_load<J: Meant>()
+    ensures { (target : ℕ) → MissesRef J.meaning (J.suits target) }
+{}
+
+/// An exchange of a turn that failed where it was tried once leaves the world.
+pub fn missed_turn_is_no_event<J: Meant>()
+    ensures { (target : ℕ) → MissesTurn J.meaning (J.suits target) }
 {}
 
 /// An exchange of the references for one more is AddRef.

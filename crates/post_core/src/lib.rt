@@ -31,6 +31,9 @@ mod settle_steps;
 mod settling;
 mod slots;
 mod taking;
+mod tries;
+mod try_jobs;
+mod try_steps;
 mod turns;
 mod uses;
 mod views;
@@ -40,9 +43,9 @@ pub use ending::{CloseBack, close, discard, unmake};
 pub use laws::{
     add_ref_is_its_event, claim_is_its_event, clone_use_is_its_event, create_is_its_event,
     drop_ref_is_its_event, load_refs_is_its_event, look_note_is_its_event, mark_life_is_its_event,
-    put_is_its_event, release_use_is_its_event, sender_give_place_is_its_event,
-    sender_take_place_is_its_event, swap_note_is_its_event, table_is_always_sound,
-    table_shows_one_world,
+    missed_ref_is_a_load, missed_turn_is_no_event, put_is_its_event, release_use_is_its_event,
+    sender_give_place_is_its_event, sender_take_place_is_its_event, swap_note_is_its_event,
+    table_is_always_sound, table_shows_one_world,
 };
 pub use making::{Made, make};
 pub use meant::Meant;
@@ -55,5 +58,5 @@ pub use owner_laws::{
     settle_finished_is_its_event, take_job_is_its_event, take_notice_is_its_event,
 };
 pub use post::{Notice, Owing, PlaceUse, Post, RefPass, SeenNote, SendPass};
-pub use send_answers::{Notified, PutAnswer, RefAnswer};
+pub use send_answers::{Notified, PutAnswer, RefAnswer, TryPutAnswer, TryRefAnswer};
 pub use uses::{CreateAnswer, Released};

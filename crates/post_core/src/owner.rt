@@ -29,7 +29,7 @@ pub(crate) struct OwnerHold<J: Meant> {
 /// The owner of an open target, which works nowhere.
 pub struct Owner<J: Meant> {
     pub(crate) hold: OwnerHold<J>,
-    ghost is_owner: { IsOwner
+    pub ghost is_owner: { IsOwner
         (starts_of hold.jobs.items) (counts_of hold.jobs.items) hold.got hold.seat.me.0 },
     ghost empty: { (hold.seat.me.1 ≡ []) × (length hold.jobs.items ≡ hold.seat.table_id.slots) },
 }
@@ -38,7 +38,7 @@ pub struct Owner<J: Meant> {
 pub struct Got<J: Meant> {
     pub(crate) hold: OwnerHold<J>,
     pub(crate) place: u32,
-    ghost is_got: { IsOwnerAt place (GotUnder hold.got)
+    pub ghost is_got: { IsOwnerAt place (GotUnder hold.got)
         (starts_of hold.jobs.items) (counts_of hold.jobs.items) hold.got hold.seat.me.0 },
     ghost empty: { (hold.seat.me.1 ≡ []) × (length hold.jobs.items ≡ hold.seat.table_id.slots) },
     ghost near: { place < hold.seat.table_id.slots },
@@ -50,9 +50,9 @@ pub struct Exec<J: Meant> {
     pub(crate) place: u32,
     /// What starts the jobs that it takes.
     pub(crate) start: Started,
-    ghost is_exec: { IsOwnerAt place (serving_of start)
+    pub ghost is_exec: { IsOwnerAt place (serving_of start)
         (starts_of hold.jobs.items) (counts_of hold.jobs.items) hold.got hold.seat.me.0 },
-    ghost runs: { is_open_start start ≡ true },
+    pub ghost runs: { is_open_start start ≡ true },
     ghost empty: { (hold.seat.me.1 ≡ []) × (length hold.jobs.items ≡ hold.seat.table_id.slots) },
     ghost near: { place < hold.seat.table_id.slots },
 }

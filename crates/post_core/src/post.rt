@@ -43,7 +43,7 @@ pub(crate) struct PassHold<J: Meant> {
 /// What one sender holds of a target. It has no reference.
 pub struct SendPass<J: Meant> {
     pub(crate) hold: PassHold<J>,
-    ghost is_pass: { IsPass hold.sender Idle
+    pub ghost is_pass: { IsPass hold.sender Idle
         (map (λ kept. kept.items) hold.own.items) hold.seat.me.0 },
     ghost empty: { (hold.seat.me.1 ≡ []) × (length hold.own.items ≡ hold.seat.table_id.slots) },
 }
@@ -78,6 +78,7 @@ pub struct Notice<J: Meant> {
 }
 
 /// What a pass or the owner has seen of a target. A pass that meets it has seen that too.
+#[derive(Drop)]
 pub struct SeenNote<J: Meant> {
     pub(crate) seat: Seat<Ring<Item<J>>, View<J::Meaning>>,
     ghost is_note: { (seat.me.0 ≡ noted seat.me.0) × (seat.me.1 ≡ []) },

@@ -1,10 +1,10 @@
 //! How a job comes to its place: its sender waits for the turn, pushes the job into the ring and counts it.
 
-ghost use Rattle.std.specs.Prelude.{◌≡◌, ◌∷◌, [], ◌++◌, ◌<◌, IfOk, IfErr, OnOk, slice_index};
+ghost use Rattle.std.specs.Prelude.{◌≡◌, ◌∷◌, [], ◌++◌, ◌<◌, IfOk, IfErr, None, OnOk, slice_index};
 ghost use Rattle.task_ring.specs.Ring.{RingView};
 ghost use Rattle.proxy_laws.specs.declared.actors.Phase.TheVariants.{Referenced};
 ghost use Rattle.post_core.specs.declared.slots.Item.{Item};
-ghost use Rattle.post_core.specs.SendSteps.{IsNextAt, IsNextMark, SenderHasTurn, job_sent, own_marks_max};
+ghost use Rattle.post_core.specs.SendSteps.{IsNextAt, IsNextMark, SenderHasTurn, job_sent, own_marks_max, place_given};
 ghost use Rattle.post_core.specs.Steps.{IsOneTable};
 ghost use Rattle.post_core.specs.Views.{IsPassView, pass_of};
 
@@ -92,7 +92,38 @@ fn push_held<J: Meant>(
     push_item(ring, mark, job)
 }
 
-// Puts a job at a place in the pass's turn there, and answers its number, or hands it back where memory is wanting.
+// Puts a job at a place whose turn the pass has, gives the turn back, and answers the job's number, or hands it back where
+// memory is wanting.
+pub(crate) fn put_with_turn<J: Meant>(
+    shared: &Shared<Ring<Item<J>>, View<J::Meaning>, Sizes, Law<J>>,
+    seat: &mut Seat<Ring<Item<J>>, View<J::Meaning>>,
+    place: u32,
+    mark: Mark,
+    job: J,
+) -> Result<u64, J>
+    requires table { IsOneTable seat.old.table_id shared.now.table_id shared.now.key.places }
+    requires near { place < shared.now.key.places }
+    requires pass { seat.old.me.0.owner ≡ None }
+    requires turn { SenderHasTurn J.meaning place (place_given place seat.old.me.0, []) seat.old.me }
+    requires mark { IsNextMark place mark seat.old.me.0 }
+    requires room { mark.seq < own_marks_max }
+    requires suits { J.suits shared.now.key.target place mark (J.meaning job) }
+    ensures seat { seat.new.table_id ≡ seat.old.table_id }
+    ensures put { IfOk result (λ nth. IsNextAt place nth seat.old.me.0 × (seat.new.me ≡
+        (job_sent place nth (record { mark = mark; meaning = J.meaning job }) seat.old.me.0, []))) }
+    ensures no_memory { IfErr result (λ back. (back ≡ job)
+        × (seat.new.me ≡ (place_given place seat.old.me.0, []))) }
+{
+    if let Err(job) = push_held(shared, seat, place, mark, job) {
+        give_turn(shared, seat, place);
+        return Err(job);
+    }
+    let nth = count_put(shared, seat, place);
+    give_turn(shared, seat, place);
+    Ok(nth)
+}
+
+// Waits for the turn of a place and puts a job there, and answers its number, or hands it back where memory is wanting.
 fn put_in_turn<R: Wait, J: Meant>(
     rt: &R,
     shared: &Shared<Ring<Item<J>>, View<J::Meaning>, Sizes, Law<J>>,
@@ -115,13 +146,7 @@ fn put_in_turn<R: Wait, J: Meant>(
     ensures no_memory { IfErr result (λ back. (back ≡ job) × (seat.new.me ≡ seat.old.me)) }
 {
     wait_for_turn(rt, shared, seat, place);
-    if let Err(job) = push_held(shared, seat, place, mark, job) {
-        give_turn(shared, seat, place);
-        return Err(job);
-    }
-    let nth = count_put(shared, seat, place);
-    give_turn(shared, seat, place);
-    Ok(nth)
+    put_with_turn(shared, seat, place, mark, job)
 }
 
 // Puts a job at a place and keeps its mark, and answers the job's number, or hands it back where memory is wanting.

@@ -103,17 +103,17 @@ pub(crate) fn add_ref<J: Meant>(
     shared.compare_exchange::<AddRef>(seat, 0, seen, seen + 1)
 }
 
-// Drops the pass's reference.
+// Drops the pass's reference, and answers how many there were.
 pub(crate) fn drop_ref<J: Meant>(
     shared: &Shared<Ring<Item<J>>, View<J::Meaning>, Sizes, Law<J>>,
     seat: &mut Seat<Ring<Item<J>>, View<J::Meaning>>,
-)
+) -> u64
     requires table { IsOneTable seat.old.table_id shared.now.table_id shared.now.key.places }
     requires referenced { IsPassView seat.old.me.0 × ((pass_of seat.old.me.0).phase ≡ Referenced) }
     ensures seat { (seat.new.table_id ≡ seat.old.table_id) × (seat.new.id ≡ seat.old.id) }
     ensures dropped { seat.new.me ≡ (at_phase Idle seat.old.me.0, seat.old.me.1) }
 {
-    shared.fetch_sub::<DropRef>(seat, 0, 1);
+    shared.fetch_sub::<DropRef>(seat, 0, 1)
 }
 
 // Tries to take the turn of a place, with its ring, and answers what its word held.

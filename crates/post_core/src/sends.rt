@@ -110,13 +110,15 @@ impl<J: Meant> RefPass<J> {
         }
     }
 
-    /// Gives the reference back.
+    /// Gives the reference back. Where it was the last one it wakes the owner, which is closing.
     pub fn give(self, post: &Post<J>) -> SendPass<J>
         requires table { IsRefPassOf post.now self }
         ensures { IsPassOf post.now result × (pass_view result ≡ at_phase Idle (ref_view self)) }
     {
         let RefPass { mut hold } = self;
-        drop_ref(&post.table.shared, &mut hold.seat);
+        if drop_ref(&post.table.shared, &mut hold.seat) == 1 {
+            post.waker.unpark();
+        }
         SendPass { hold }
     }
 }

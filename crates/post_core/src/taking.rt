@@ -46,6 +46,13 @@ fn keep_started(jobs: &mut Vec<PlaceJobs>, place: u32, job: StartedJob)
 }
 
 impl<J: Meant> Exec<J> {
+    /// The place that is executed.
+    pub fn place(&self) -> u32
+        ensures { result ≡ exec_place self.now }
+    {
+        self.place
+    }
+
     /// Makes room to keep one job more.
     pub fn ready(&mut self) -> Result<(), AllocError>
         ensures room { OnOk result (1 ≤ exec_room self.new) }

@@ -40,6 +40,13 @@ pub struct Finding {
     pub freed: u64,
 }
 
+/// An exchange that failed: of which word, which value it expected, and which it found.
+pub struct Exchange {
+    pub word: u32,
+    pub expected: u64,
+    pub value: u64,
+}
+
 /// What a pass knows of its sender. Lists without a remark have one member for each place.
 pub struct PassView<M> {
     pub number: u32,
@@ -56,6 +63,8 @@ pub struct PassView<M> {
     pub tried: LinkedList<u64>,
     /// Each finding, of any place.
     pub full: LinkedList<Finding>,
+    /// The last exchange that failed where it was tried once.
+    pub last_failed: Option<Exchange>,
 }
 
 /// What the owner's seat knows. Lists without a remark have one member for each place.

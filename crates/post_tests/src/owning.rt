@@ -14,7 +14,6 @@ use post_core::{
 use proxy_laws::{FateMark, PostRecord};
 use std::process::Abort;
 use std::sync::Wait;
-use std::thread;
 
 /// Finishes each job that waits at the place. One that was taken before may be active at place 0.
 pub(crate) fn execute<R: Abort + Wait>(
@@ -132,7 +131,7 @@ pub(crate) fn hold_first<R: Abort + Wait>(
     }
 }
 
-/// Looks until no reference is left.
+/// Parks until no reference is left.
 pub(crate) fn shut<R: Wait>(
     rt: &R,
     post: &Post<u64>,
@@ -148,10 +147,7 @@ pub(crate) fn shut<R: Wait>(
             ClosingLook::Referenced {
                 closing: after,
                 count: _,
-            } => {
-                closing = after;
-                thread::yield_now();
-            }
+            } => closing = after.park(rt, post),
         }
     }
     unreachable!()

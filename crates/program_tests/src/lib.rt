@@ -5,6 +5,8 @@
 use std::alloc::{AllocError, Global};
 
 #[cfg(test)]
+mod generated;
+#[cfg(test)]
 mod solo;
 #[cfg(test)]
 mod texts;

@@ -1,7 +1,9 @@
-pub mod RunLemmas
 pub mod NumberLemmas
 pub mod SlotLemmas
 pub mod StoreLemmas
 pub mod AnswerLemmas
 pub mod OpeningLemmas
 pub mod MountLemmas
+pub mod DrawLemmas
+pub mod LawLemmas
+pub mod OrderLemmas

@@ -5,9 +5,9 @@ use Rattle.name_store.specs.declared.operation.Node.TheVariants.{Mount}
 use Rattle.name_store.specs.NameTrees.{Listing, entry_at, empty_in, with_entry, with_mount, opening}
 use Rattle.name_store.proofs.Entries.{same_name, apart_names, entered_here, entered_other}
 use Rattle.name_store.proofs.Soundness.{opening_sound}
-use Rattle.path_walk.specs.Store.{Backend}
+use Rattle.path_walk.specs.Store.{Backend, opening_backend}
 use Rattle.trace_text.specs.declared.trace.BackendLine.{BackendLine}
-use Rattle.trace_text.specs.SoloText.{mounts_from, opening_backend, opening_store}
+use Rattle.trace_text.specs.SoloText.{mounts_from, opening_store}
 use Rattle.run_engine.proofs.SlotLemmas.{opening_among as opening_slots_among}
 use Rattle.run_engine.specs.RunStores.{IsBackend, IsRunStore, MountsAmong}
 

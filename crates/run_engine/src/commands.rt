@@ -1,16 +1,19 @@
-ghost use Rattle.std.specs.Prelude.{◌≡◌, ◌≢◌, ◌≤◌, ◌⊎◌, map, IfOk};
+ghost use Rattle.std.specs.Prelude.{◌≡◌, map, IfOk};
 ghost use Rattle.std.specs.String.{string_bytes};
-ghost use Rattle.std.specs.Io.KnownBytes.{Appends};
-ghost use Rattle.wf_core.specs.Bytes.{AppendsFront};
-ghost use Rattle.wf_core.specs.Faults.{Rose};
+ghost use Rattle.wf_core.specs.Runs.{streams};
+ghost use Rattle.trace_text.specs.declared.trace.Mode.TheVariants.{Plain};
 ghost use Rattle.trace_text.specs.SoloText.{IsSoloText};
-ghost use Rattle.run_engine.specs.Runs.{IsDueText, status_due, streams};
-ghost use Rattle.run_engine.specs.Solo.{IsSoloRun, is_solo};
+ghost use Rattle.run_engine.specs.Generate.{IsGenerateRun, seed_in, seed_of, without_source};
+ghost use Rattle.run_engine.specs.Generated.{generated_trace};
+ghost use Rattle.run_engine.specs.Solo.{IsSoloRun, is_solo, trace_refusal, usage_text};
+ghost use Rattle.run_engine.specs.Summary.{summary_text};
 
 use crate::solo_run::run_solo;
+use crate::summary::run_summary;
+use crate::trace_maker::generated_trace;
 use std::alloc::{AllocError, Global};
-use trace_text::{Mode, TraceRefusal, read_trace, refusal_line};
-use wf_core::{INPUT_MAX, InputFault, RunStatus, Sink, Source, read_input, write_text};
+use trace_text::{Mode, TraceRefusal, read_number, read_trace, refusal_line};
+use wf_core::{Command, Due, RunStatus, Sink, Source, finish, run_command};
 
 /// The line that wrong words are answered with.
 const USAGE: &[u8] = b"usage: wasmfs-run solo|threads|gen N\n";
@@ -30,19 +33,7 @@ pub fn solo<S: Source, K: Sink>(
         (streams (S.left src.new) (S.given src.new) (S.faults src.new)
         (K.written out.new) (K.faults out.new)) }
 {
-    if !is_solo(words) {
-        return finish(out, USAGE, RunStatus::Usage);
-    }
-    let input = match read_input(alloc, src, INPUT_MAX) {
-        Ok(input) => input,
-        Err(InputFault::ReadFault) => return RunStatus::ReadFault,
-        Err(InputFault::TooLong) => return RunStatus::TooLong,
-        Err(InputFault::NoMemory) => return RunStatus::NoMemory,
-    };
-    match due_for(alloc, input.as_slice()) {
-        Ok(due) => finish(out, due.text.as_slice(), due.status),
-        Err(AllocError) => RunStatus::NoMemory,
-    }
+    run_command(alloc, &SoloCommand, is_solo(words), src, out)
 }
 
 fn is_solo(words: &[String]) -> bool
@@ -54,42 +45,70 @@ fn is_solo(words: &[String]) -> bool
     }
 }
 
-/// What is due for an input: the whole text, and the status under which it is written.
-#[derive(Drop)]
-struct Due {
-    status: RunStatus,
-    text: Vec<u8>,
-}
+/// The command `solo`.
+struct SoloCommand;
 
-fn due_for(alloc: Global, input: &[u8]) -> Result<Due, AllocError>
-    ensures status { IfOk result (λ due. due.status ≡ status_due input.now) }
-    ensures text { IfOk result (λ due. IsDueText (IsSoloText Mode.Plain) input.now due.text.items) }
-{
-    match read_trace(alloc, input, Mode::Plain) {
-        Ok(trace) => Ok(Due {
-            status: RunStatus::Done,
-            text: run_solo(alloc, trace)?,
-        }),
-        Err(TraceRefusal::NoMemory) => Err(AllocError),
-        Err(TraceRefusal::Faulty(refusal)) => Ok(Due {
-            status: RunStatus::Refused,
-            text: refusal_line(alloc, refusal)?,
-        }),
+impl Command for SoloCommand {
+    ghost usage_line = { usage_text };
+
+    ghost refusal = { trace_refusal Plain };
+
+    ghost IsText = { IsSoloText Plain };
+
+    fn usage(&self) -> &[u8] {
+        USAGE
+    }
+
+    fn due(&self, alloc: Global, input: &[u8]) -> Result<Due, AllocError> {
+        match read_trace(alloc, input, Mode::Plain) {
+            Ok(trace) => Ok(Due::Text(run_solo(alloc, trace)?)),
+            Err(TraceRefusal::NoMemory) => Err(AllocError),
+            Err(TraceRefusal::Faulty(refusal)) => Ok(Due::Refusal(refusal_line(alloc, refusal)?)),
+        }
     }
 }
 
-/// Writes the text that is due, and answers its status where no write failed.
-fn finish<K: Sink>(out: &mut K, text: &[u8], status: RunStatus) -> RunStatus
-    ensures whole { result ≢ RunStatus.WriteFault
-        → (result ≡ status) × Appends (K.written out.old) (K.written out.new) text.now }
-    ensures front { AppendsFront (K.written out.old) (K.written out.new) text.now }
-    ensures fault { result ≡ RunStatus.WriteFault → status ≢ RunStatus.WriteFault
-        → Rose (K.faults out.old) (K.faults out.new) }
-    ensures status { (result ≡ status) ⊎ (result ≡ RunStatus.WriteFault) }
-    ensures later { K.faults out.old ≤ K.faults out.new }
+/// The greatest number of a trace.
+const SEED_MAX: u64 = 4_294_967_295;
+
+/// Runs the trace that a number makes, in one thread, and writes how often each reply came and what is in the tree.
+///
+/// The words are right where they are `gen` and a decimal from 0 to 4,294,967,295 without leading zeros.
+pub fn generate<K: Sink>(alloc: Global, words: &[String], out: &mut K) -> RunStatus
+    ensures { IsGenerateRun (map string_bytes words.now) result
+        (without_source (K.written out.old) (K.faults out.old))
+        (without_source (K.written out.new) (K.faults out.new)) }
 {
-    match write_text(out, text) {
-        Ok(()) => status,
-        Err(_) => RunStatus::WriteFault,
+    let Some(seed) = seed_in(words) else {
+        return finish(out, USAGE, RunStatus::Usage);
+    };
+    match summary_of(alloc, seed) {
+        Ok(text) => finish(out, text.as_slice(), RunStatus::Done),
+        Err(AllocError) => RunStatus::NoMemory,
     }
+}
+
+fn seed_in(words: &[String]) -> Option<u64>
+    ensures { result ≡ seed_in (map string_bytes words.now) }
+{
+    match words {
+        [word, number] => seed_of(word.as_bytes(), number.as_bytes()),
+        _ => None,
+    }
+}
+
+fn seed_of(word: &[u8], number: &[u8]) -> Option<u64>
+    ensures { result ≡ seed_of word.now number.now }
+{
+    if word != b"gen".as_slice() {
+        return None;
+    }
+    read_number(number, SEED_MAX)
+}
+
+/// The summary of the trace of a number.
+fn summary_of(alloc: Global, seed: u64) -> Result<Vec<u8>, AllocError>
+    ensures { IfOk result (λ text. text.items ≡ summary_text (generated_trace seed)) }
+{
+    run_summary(alloc, generated_trace(alloc, seed)?)
 }

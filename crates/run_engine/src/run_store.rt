@@ -1,12 +1,12 @@
 ghost use Rattle.std.specs.Prelude.{◌≡◌, ◌<◌, true, length, slice_get, option_copied, option_map, IfOk, OnErr};
-ghost use Rattle.path_walk.specs.Store.{Backend, backend_at};
+ghost use Rattle.path_walk.specs.Store.{Backend, backend_at, opening_backend};
 ghost use Rattle.wf_core.specs.Limits.{group_count};
 ghost use Rattle.name_store.specs.Forms.{IsForm};
 ghost use Rattle.file_store.specs.FileForms.{IsForm as IsFileForm};
 ghost use Rattle.file_store.specs.DescriptorMap.{IsForm as IsFdForm};
 ghost use Rattle.path_walk.specs.Backing.{DescriptorsAmong, IsFdOpAmong, NamesAmong};
 ghost use Rattle.wf_core.specs.Names.{is_name};
-ghost use Rattle.trace_text.specs.SoloText.{mounts_from, opening_backend, opening_store};
+ghost use Rattle.trace_text.specs.SoloText.{mounts_from, opening_store};
 ghost use Rattle.run_engine.specs.RunStores.{AreMountable, IsDescriptorsStep, IsNamesStep, IsFilesStep, backends_of};
 
 use file_store::{Descriptors, FdAnswer, FdOp, FileAnswer, FileOp, Files};

@@ -1,13 +1,15 @@
 ghost use Rattle.std.specs.Prelude.{◌≡◌, ◌++◌, IfOk, OnOk};
+ghost use Rattle.std.specs.List.{flat_map};
 ghost use Rattle.path_walk.specs.Store.{Store};
 ghost use Rattle.trace_text.specs.Traces.{thread_name, traced};
 ghost use Rattle.trace_text.specs.Texts.{reply_line};
-ghost use Rattle.trace_text.specs.SoloText.{after_call_line, mounted_text, outcome_of_line, replies_text, solo_text, store_after, store_text};
+ghost use Rattle.trace_text.specs.SoloText.{after_call_line, outcome_of_line, replies_text, solo_text, store_after, store_text};
 ghost use Rattle.run_engine.specs.RunStores.{AreMountable};
+ghost use Rattle.run_engine.specs.WholeTree.{placed_text};
 
 use crate::run::Run;
 use crate::run_store::RunStore;
-use name_store::TreeLine;
+use crate::whole_tree::{PlacedLine, whole_tree};
 use std::alloc::{AllocError, Global};
 use trace_text::{CallLine, Trace, push_end_line, push_reply_line, push_tree_line};
 use wf_core::Text;
@@ -73,36 +75,26 @@ fn name_of(threads: &[Text], thread: u32) -> &[u8]
 fn push_tree(alloc: Global, store: &RunStore, text: &mut Vec<u8>) -> Result<(), AllocError>
     ensures { OnOk result (text.new.items ≡ text.old.items ++ store_text store.now) }
 {
-    let root = store.root();
-    let lines = root.names().lines(alloc)?;
-    for line in lines.as_slice() {
-        push_tree_line(text, root.groups(), 0, line)?;
-        push_mounted(alloc, store, line, text)?;
+    let lines = whole_tree(alloc, store)?;
+    push_lines(store, lines.as_slice(), text)?;
+    Ok(())
+}
+
+fn push_lines(store: &RunStore, lines: &[PlacedLine], text: &mut Vec<u8>) -> Result<(), AllocError>
+    ensures { OnOk result (text.new.items
+        ≡ text.old.items ++ flat_map (placed_text store.now) lines.now) }
+{
+    for line in lines {
+        push_line(store, line, text)?;
     }
     Ok(())
 }
 
-/// Appends what stands in a line of the root's tree that is a mount.
-fn push_mounted(
-    alloc: Global,
-    store: &RunStore,
-    line: &TreeLine,
-    text: &mut Vec<u8>,
-) -> Result<(), AllocError>
-    ensures { OnOk result (text.new.items ≡ text.old.items ++ mounted_text store.now line.now) }
+fn push_line(store: &RunStore, line: &PlacedLine, text: &mut Vec<u8>) -> Result<(), AllocError>
+    ensures { OnOk result (text.new.items ≡ text.old.items ++ placed_text store.now line.now) }
 {
-    let TreeLine::Mount { depth, backend, .. } = line else {
-        return Ok(());
-    };
-    let Some(backend) = store.backend(*backend) else {
-        return Ok(());
-    };
-    let lines = backend.names().lines(alloc)?;
-    let Some((_, below)) = lines.as_slice().split_first() else {
-        return Ok(());
-    };
-    for line in below {
-        push_tree_line(text, backend.groups(), *depth, line)?;
+    match store.backend(line.backend) {
+        Some(backend) => push_tree_line(text, backend.groups(), line.deeper, &line.line),
+        None => push_tree_line(text, &[], line.deeper, &line.line),
     }
-    Ok(())
 }

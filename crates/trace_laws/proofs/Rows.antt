@@ -3,7 +3,7 @@ use Rattle.std.proofs.Common.{◌≡◌, ℕ, Bool, List, [], ◌∷◌, codes, 
 use Rattle.std.specs.Fmt.{decimal, signed_decimal}
 use Rattle.trace_text.specs.declared.trace_call.TraceCall.{TraceCall}
 use Rattle.trace_text.specs.declared.trace_call.TraceCall.TheVariants as call
-use Rattle.trace_text.specs.declared.trace_call.DataCall.TheVariants as use_of
+use Rattle.path_walk.specs.declared.descriptor_call.DataCall.TheVariants as on_file
 use Rattle.trace_text.specs.Fields.{text_in, path_in, text_field, count_in, offset_in}
 use Rattle.trace_text.specs.Words.{Form, one, two, three, pair, flags_in, descriptor_in, whence_in, form_of}
 use Rattle.trace_text.specs.TraceTexts.{call_fields, descriptor_field, whence_field, flags_field}
@@ -115,20 +115,20 @@ row_again word form e =
         (
           (λ o. two_again (codes "dup2") (descriptor_in o) (descriptor_in o) descriptor_field descriptor_field (λ x. call.Dup2 x.0 x.1) (descriptor_prints o) (descriptor_prints o) (λ z. refl)),
           (
-            (λ o. one_again (codes "fstat") (descriptor_in o) descriptor_field (λ x. call.Uses x use_of.Fstat) (descriptor_prints o) (λ x. refl)),
-            ((λ o. two_again (codes "ftruncate") (descriptor_in o) offset_in descriptor_field signed_decimal (λ x. call.Uses x.0 (use_of.Ftruncate x.1)) (descriptor_prints o) offset_prints (λ z. refl)), tt),
+            (λ o. one_again (codes "fstat") (descriptor_in o) descriptor_field (λ x. call.Data x on_file.Fstat) (descriptor_prints o) (λ x. refl)),
+            ((λ o. two_again (codes "ftruncate") (descriptor_in o) offset_in descriptor_field signed_decimal (λ x. call.Data x.0 (on_file.Ftruncate x.1)) (descriptor_prints o) offset_prints (λ z. refl)), tt),
           ),
         ),
       ),
     ) (
-      (λ o. two_again (codes "read") (descriptor_in o) count_in descriptor_field decimal (λ x. call.Uses x.0 (use_of.Read x.1)) (descriptor_prints o) count_prints (λ z. refl)),
+      (λ o. two_again (codes "read") (descriptor_in o) count_in descriptor_field decimal (λ x. call.Data x.0 (on_file.Read x.1)) (descriptor_prints o) count_prints (λ z. refl)),
       (
-        (λ o. three_again (codes "pread") (descriptor_in o) count_in offset_in descriptor_field decimal signed_decimal (λ x. call.Uses x.0 (use_of.Pread x.1.0 x.1.1)) (descriptor_prints o) count_prints offset_prints (λ z. refl)),
+        (λ o. three_again (codes "pread") (descriptor_in o) count_in offset_in descriptor_field decimal signed_decimal (λ x. call.Data x.0 (on_file.Pread x.1.0 x.1.1)) (descriptor_prints o) count_prints offset_prints (λ z. refl)),
         (
-          (λ o. two_again (codes "write") (descriptor_in o) text_in descriptor_field text_field (λ x. call.Uses x.0 (use_of.Write x.1)) (descriptor_prints o) text_prints (λ z. refl)),
+          (λ o. two_again (codes "write") (descriptor_in o) text_in descriptor_field text_field (λ x. call.Data x.0 (on_file.Write x.1)) (descriptor_prints o) text_prints (λ z. refl)),
           (
-            (λ o. three_again (codes "pwrite") (descriptor_in o) text_in offset_in descriptor_field text_field signed_decimal (λ x. call.Uses x.0 (use_of.Pwrite x.1.0 x.1.1)) (descriptor_prints o) text_prints offset_prints (λ z. refl)),
-            ((λ o. three_again (codes "seek") (descriptor_in o) offset_in whence_in descriptor_field signed_decimal whence_field (λ x. call.Uses x.0 (use_of.Seek x.1.0 x.1.1)) (descriptor_prints o) offset_prints whence_prints (λ z. refl)), tt),
+            (λ o. three_again (codes "pwrite") (descriptor_in o) text_in offset_in descriptor_field text_field signed_decimal (λ x. call.Data x.0 (on_file.Pwrite x.1.0 x.1.1)) (descriptor_prints o) text_prints offset_prints (λ z. refl)),
+            ((λ o. three_again (codes "seek") (descriptor_in o) offset_in whence_in descriptor_field signed_decimal whence_field (λ x. call.Data x.0 (on_file.Seek x.1.0 x.1.1)) (descriptor_prints o) offset_prints whence_prints (λ z. refl)), tt),
           ),
         ),
       ),

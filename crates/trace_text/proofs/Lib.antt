@@ -1,3 +1,4 @@
+pub mod FirstBytes
 pub mod Cuts
 pub mod TextFields
 pub mod Numbers

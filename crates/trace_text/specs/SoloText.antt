@@ -1,13 +1,11 @@
 -- The text of a run of a trace: each call's reply, in the trace's order, and the tree that is left.
 use Rattle.std.specs.Prelude.{◌≡◌, ℕ, ◌+◌, List, [], ◌∷◌, ◌++◌, drop, map, slice_get, slice_set, unwrap_or}
 use Rattle.std.specs.List.{flat_map}
-use Rattle.name_store.specs.NameTrees.{opening}
 use Rattle.name_store.specs.declared.tree_line.TreeLine.{TreeLine}
 use Rattle.name_store.specs.declared.tree_line.TreeLine.TheVariants.{Mount as MountLine}
 use Rattle.name_store.specs.TreeLines.{tree_lines}
 use Rattle.file_store.specs.DescriptorMap.{opening as descriptors_opening}
-use Rattle.file_store.specs.FileGroups.{opening as group_opening}
-use Rattle.path_walk.specs.Store.{Backend, Store, backend_at, names_at}
+use Rattle.path_walk.specs.Store.{Store, backend_at, names_at, opening_backend}
 use Rattle.path_walk.specs.declared.call.Call.{Call}
 use Rattle.path_walk.specs.Programs.{CallOutcome}
 use Rattle.path_walk.specs.Posix.{posix}
@@ -23,10 +21,6 @@ use Rattle.trace_text.specs.Texts.{reply_line, tree_text, end_line}
 abbrev pub mounts_from : ℕ → List BackendLine → List (List ℕ × ℕ)
 mounts_from number [] = []
 mounts_from number (backend ∷ backends) = (backend.name, number) ∷ mounts_from (number + 1) backends
-
--- a backend that has these mounts, and no file
-abbrev pub opening_backend : List (List ℕ × ℕ) → Backend
-opening_backend mounts = record { names = opening mounts; groups = map group_opening (0 ∷ 1 ∷ 2 ∷ 3 ∷ []) }
 
 -- the store before the first call: the root's backend with the mounts, the others, which are empty, and no descriptor
 abbrev pub opening_store : List BackendLine → Store

@@ -6,10 +6,10 @@ use Rattle.path_walk.specs.declared.call.Reply.{Reply}
 use Rattle.path_walk.specs.declared.call.Reply.TheVariants.{Fd}
 use Rattle.trace_text.specs.declared.trace_call.Descriptor.{Descriptor}
 use Rattle.trace_text.specs.declared.trace_call.Descriptor.TheVariants.{Number, ReplyOf}
-use Rattle.trace_text.specs.declared.trace_call.DataCall.{DataCall}
-use Rattle.trace_text.specs.declared.trace_call.DataCall.TheVariants.{Read, Pread, Write, Pwrite, Seek, Ftruncate, Fstat}
+use Rattle.path_walk.specs.declared.descriptor_call.DataCall.{DataCall}
+use Rattle.path_walk.specs.declared.descriptor_call.DataCall.TheVariants.{Read, Pread, Write, Pwrite, Seek, Ftruncate, Fstat}
 use Rattle.trace_text.specs.declared.trace_call.TraceCall.{TraceCall}
-use Rattle.trace_text.specs.declared.trace_call.TraceCall.TheVariants.{Mkdir, Rmdir, Unlink, Symlink, Rename, Readlink, Stat, Lstat, List as ListCall, Open, Close, Dup, Dup2, Uses}
+use Rattle.trace_text.specs.declared.trace_call.TraceCall.TheVariants.{Mkdir, Rmdir, Unlink, Symlink, Rename, Readlink, Stat, Lstat, List as ListCall, Open, Close, Dup, Dup2, Data}
 
 -- the number for a reply that has none: a call that failed. No descriptor has it
 abbrev pub no_number : ℕ
@@ -54,4 +54,4 @@ file_call numbers (Open path flags) = call.Open path flags
 file_call numbers (Close descriptor) = call.Close (number_of numbers descriptor)
 file_call numbers (Dup descriptor) = call.Dup (number_of numbers descriptor)
 file_call numbers (Dup2 descriptor target) = call.Dup2 (number_of numbers descriptor) (number_of numbers target)
-file_call numbers (Uses descriptor data_call) = data_call_on (number_of numbers descriptor) data_call
+file_call numbers (Data descriptor data_call) = data_call_on (number_of numbers descriptor) data_call

@@ -11,10 +11,10 @@ use Rattle.trace_text.specs.declared.trace.BackendLine.{BackendLine}
 use Rattle.trace_text.specs.declared.trace.CallLine.{CallLine}
 use Rattle.trace_text.specs.declared.trace_call.Descriptor.{Descriptor}
 use Rattle.trace_text.specs.declared.trace_call.Descriptor.TheVariants.{Number, ReplyOf}
-use Rattle.trace_text.specs.declared.trace_call.DataCall.{DataCall}
-use Rattle.trace_text.specs.declared.trace_call.DataCall.TheVariants.{Read, Pread, Write, Pwrite, Seek, Ftruncate, Fstat}
+use Rattle.path_walk.specs.declared.descriptor_call.DataCall.{DataCall}
+use Rattle.path_walk.specs.declared.descriptor_call.DataCall.TheVariants.{Read, Pread, Write, Pwrite, Seek, Ftruncate, Fstat}
 use Rattle.trace_text.specs.declared.trace_call.TraceCall.{TraceCall}
-use Rattle.trace_text.specs.declared.trace_call.TraceCall.TheVariants.{Mkdir, Rmdir, Unlink, Symlink, Rename, Readlink, Stat, Lstat, List as ListCall, Open, Close, Dup, Dup2, Uses}
+use Rattle.trace_text.specs.declared.trace_call.TraceCall.TheVariants.{Mkdir, Rmdir, Unlink, Symlink, Rename, Readlink, Stat, Lstat, List as ListCall, Open, Close, Dup, Dup2, Data}
 use Rattle.trace_text.specs.Fields.{text_field}
 use Rattle.trace_text.specs.Grammar.{kind_word}
 use Rattle.trace_text.specs.Traces.{Traced, thread_name}
@@ -67,7 +67,7 @@ call_fields (Open path flags) = codes "open" ∷ text_field path ∷ flags_field
 call_fields (Close descriptor) = codes "close" ∷ descriptor_field descriptor ∷ []
 call_fields (Dup descriptor) = codes "dup" ∷ descriptor_field descriptor ∷ []
 call_fields (Dup2 descriptor target) = codes "dup2" ∷ descriptor_field descriptor ∷ descriptor_field target ∷ []
-call_fields (Uses descriptor call) = data_fields (descriptor_field descriptor) call
+call_fields (Data descriptor call) = data_fields (descriptor_field descriptor) call
 
 abbrev pub call_text : TraceCall → List ℕ
 call_text call = join_with_byte 32 (call_fields call)

@@ -10,7 +10,7 @@ use Rattle.file_store.specs.declared.file_operation.Whence.TheVariants as whence
 use Rattle.path_walk.specs.declared.open_request.OpenFlags.{OpenFlags}
 use Rattle.trace_text.specs.declared.trace_call.Descriptor.{Descriptor}
 use Rattle.trace_text.specs.declared.trace_call.Descriptor.TheVariants.{Number, ReplyOf}
-use Rattle.trace_text.specs.declared.trace_call.DataCall.TheVariants as use_of
+use Rattle.path_walk.specs.declared.descriptor_call.DataCall.TheVariants as on_file
 use Rattle.trace_text.specs.declared.trace_call.TraceCall.{TraceCall}
 use Rattle.trace_text.specs.declared.trace_call.TraceCall.TheVariants as call
 use Rattle.trace_text.specs.declared.trace.BackendLine.{BackendLine}
@@ -172,18 +172,18 @@ descriptor_rows =
     row (codes "close") (λ openings fields. option_map call.Close (one (descriptor_in openings) fields))
     ∷ row (codes "dup") (λ openings fields. option_map call.Dup (one (descriptor_in openings) fields))
     ∷ row (codes "dup2") (λ openings fields. option_map (λ x. call.Dup2 x.0 x.1) (two (descriptor_in openings) (descriptor_in openings) fields))
-    ∷ row (codes "fstat") (λ openings fields. option_map (λ x. call.Uses x use_of.Fstat) (one (descriptor_in openings) fields))
-    ∷ row (codes "ftruncate") (λ openings fields. option_map (λ x. call.Uses x.0 (use_of.Ftruncate x.1)) (two (descriptor_in openings) offset_in fields))
+    ∷ row (codes "fstat") (λ openings fields. option_map (λ x. call.Data x on_file.Fstat) (one (descriptor_in openings) fields))
+    ∷ row (codes "ftruncate") (λ openings fields. option_map (λ x. call.Data x.0 (on_file.Ftruncate x.1)) (two (descriptor_in openings) offset_in fields))
     ∷ []
 
 -- that read, write or seek
 abbrev pub data_rows : List Row
 data_rows =
-    row (codes "read") (λ openings fields. option_map (λ x. call.Uses x.0 (use_of.Read x.1)) (two (descriptor_in openings) count_in fields))
-    ∷ row (codes "pread") (λ openings fields. option_map (λ x. call.Uses x.0 (use_of.Pread x.1.0 x.1.1)) (three (descriptor_in openings) count_in offset_in fields))
-    ∷ row (codes "write") (λ openings fields. option_map (λ x. call.Uses x.0 (use_of.Write x.1)) (two (descriptor_in openings) text_in fields))
-    ∷ row (codes "pwrite") (λ openings fields. option_map (λ x. call.Uses x.0 (use_of.Pwrite x.1.0 x.1.1)) (three (descriptor_in openings) text_in offset_in fields))
-    ∷ row (codes "seek") (λ openings fields. option_map (λ x. call.Uses x.0 (use_of.Seek x.1.0 x.1.1)) (three (descriptor_in openings) offset_in whence_in fields))
+    row (codes "read") (λ openings fields. option_map (λ x. call.Data x.0 (on_file.Read x.1)) (two (descriptor_in openings) count_in fields))
+    ∷ row (codes "pread") (λ openings fields. option_map (λ x. call.Data x.0 (on_file.Pread x.1.0 x.1.1)) (three (descriptor_in openings) count_in offset_in fields))
+    ∷ row (codes "write") (λ openings fields. option_map (λ x. call.Data x.0 (on_file.Write x.1)) (two (descriptor_in openings) text_in fields))
+    ∷ row (codes "pwrite") (λ openings fields. option_map (λ x. call.Data x.0 (on_file.Pwrite x.1.0 x.1.1)) (three (descriptor_in openings) text_in offset_in fields))
+    ∷ row (codes "seek") (λ openings fields. option_map (λ x. call.Data x.0 (on_file.Seek x.1.0 x.1.1)) (three (descriptor_in openings) offset_in whence_in fields))
     ∷ []
 
 -- the row of a word

@@ -6,8 +6,9 @@ ghost use Rattle.trace_text.specs.Words.{data_rows, descriptor_in, descriptor_ro
 use crate::call_field::{count_in, descriptor_in, offset_in, whence_in};
 use crate::field::{one_of, three_of, two_of};
 use crate::text_field::bytes_of;
-use crate::trace_call::{DataCall, Descriptor, TraceCall};
+use crate::trace_call::{Descriptor, TraceCall};
 use file_store::Whence;
+use path_walk::DataCall;
 use std::alloc::{AllocError, Global};
 use wf_core::Text;
 
@@ -144,12 +145,12 @@ pub(crate) fn descriptor_call(
     }
     if word == b"fstat".as_slice() {
         let descriptor = descriptor_alone(openings, fields);
-        return Some(descriptor.map(|descriptor| TraceCall::Uses(descriptor, DataCall::Fstat)));
+        return Some(descriptor.map(|descriptor| TraceCall::Data(descriptor, DataCall::Fstat)));
     }
     if word == b"ftruncate".as_slice() {
         let both = descriptor_with_size(openings, fields);
         return Some(both.map(|(descriptor, size)| {
-            TraceCall::Uses(descriptor, DataCall::Ftruncate(size))
+            TraceCall::Data(descriptor, DataCall::Ftruncate(size))
         }));
     }
     None
@@ -169,31 +170,31 @@ pub(crate) fn data_call(
     if word == b"read".as_slice() {
         let both = descriptor_with_count(openings, fields);
         return Ok(Some(both.map(|(descriptor, count)| {
-            TraceCall::Uses(descriptor, DataCall::Read(count))
+            TraceCall::Data(descriptor, DataCall::Read(count))
         })));
     }
     if word == b"pread".as_slice() {
         let all = descriptor_with_count_and_offset(openings, fields);
         return Ok(Some(all.map(|(descriptor, count, offset)| {
-            TraceCall::Uses(descriptor, DataCall::Pread(count, offset))
+            TraceCall::Data(descriptor, DataCall::Pread(count, offset))
         })));
     }
     if word == b"write".as_slice() {
         let both = descriptor_with_bytes(alloc, openings, fields)?;
         return Ok(Some(both.map(|(descriptor, bytes)| {
-            TraceCall::Uses(descriptor, DataCall::Write(bytes))
+            TraceCall::Data(descriptor, DataCall::Write(bytes))
         })));
     }
     if word == b"pwrite".as_slice() {
         let all = descriptor_with_bytes_and_offset(alloc, openings, fields)?;
         return Ok(Some(all.map(|(descriptor, bytes, offset)| {
-            TraceCall::Uses(descriptor, DataCall::Pwrite(bytes, offset))
+            TraceCall::Data(descriptor, DataCall::Pwrite(bytes, offset))
         })));
     }
     if word == b"seek".as_slice() {
         let all = descriptor_with_offset_and_whence(openings, fields);
         return Ok(Some(all.map(|(descriptor, offset, whence)| {
-            TraceCall::Uses(descriptor, DataCall::Seek(offset, whence))
+            TraceCall::Data(descriptor, DataCall::Seek(offset, whence))
         })));
     }
     Ok(None)

@@ -3,17 +3,19 @@ ghost use Rattle.std.specs.List.{list_all, slice_split};
 ghost use Rattle.std.specs.Option.{option_copied};
 ghost use Rattle.trace_text.specs.Fields.{at_most, fields_in, negative_of, has_leading_zero, is_label, is_label_byte, is_skipped, label_in, number_in, one_of, pieces_behind, pieces_of, signed_in, three_of, two_of};
 
+use memchr::memchr;
+
 /// The most bytes of the name of a thread or a backend.
 const LABEL_MAX: usize = 16;
 
 fn place_of(text: &[u8], byte: u8) -> Option<usize>
     ensures { result ≡ position (λ b. b == byte) text.now }
 {
-    text.iter().position(|b| *b == byte)
+    memchr(byte, text)
 }
 
 /// The text before the first such byte, and the text behind it where there is one.
-pub(crate) fn cut(text: &[u8], byte: u8) -> (&[u8], Option<&[u8]>)
+pub fn cut(text: &[u8], byte: u8) -> (&[u8], Option<&[u8]>)
     ensures pieces { slice_split (λ b. b == byte) text.now
         ≡ result.0.now ∷ pieces_behind byte (option_copied result.1) }
     ensures whole { IfNone result.1 (result.0.now ≡ text.now) }
@@ -26,7 +28,7 @@ pub(crate) fn cut(text: &[u8], byte: u8) -> (&[u8], Option<&[u8]>)
 }
 
 /// The first line of a text and what is behind its byte 10, where it has one.
-pub(crate) fn first_line(text: &[u8]) -> Option<(&[u8], &[u8])>
+pub fn first_line(text: &[u8]) -> Option<(&[u8], &[u8])>
     ensures pieces { MatchOption result (pieces_of text.now ≡ text.now ∷ [])
         (λ x. pieces_of text.now ≡ x.0.now ∷ pieces_of x.1.now) }
     ensures shorter { IfSome result (λ x. length x.1.now < length text.now) }
@@ -39,7 +41,7 @@ pub(crate) fn first_line(text: &[u8]) -> Option<(&[u8], &[u8])>
 }
 
 /// The field that a text is, where it has no space.
-pub(crate) fn one_of(text: Option<&[u8]>) -> Option<&[u8]>
+pub fn one_of(text: Option<&[u8]>) -> Option<&[u8]>
     ensures { option_copied result ≡ one_of (fields_in (option_copied text.entry)) }
 {
     let (field, rest) = cut(text?, b' ');
@@ -50,7 +52,7 @@ pub(crate) fn one_of(text: Option<&[u8]>) -> Option<&[u8]>
 }
 
 /// The two fields that a text is, where it has one space.
-pub(crate) fn two_of(text: Option<&[u8]>) -> Option<(&[u8], &[u8])>
+pub fn two_of(text: Option<&[u8]>) -> Option<(&[u8], &[u8])>
     ensures { option_map (λ x. (x.0.now, x.1.now)) result
         ≡ two_of (fields_in (option_copied text.entry)) }
 {
@@ -60,7 +62,7 @@ pub(crate) fn two_of(text: Option<&[u8]>) -> Option<(&[u8], &[u8])>
 }
 
 /// The three fields that a text is, where it has two spaces.
-pub(crate) fn three_of(text: Option<&[u8]>) -> Option<(&[u8], &[u8], &[u8])>
+pub fn three_of(text: Option<&[u8]>) -> Option<(&[u8], &[u8], &[u8])>
     ensures { option_map (λ x. (x.0.now, (x.1.now, x.2.now))) result
         ≡ three_of (fields_in (option_copied text.entry)) }
 {
@@ -70,7 +72,7 @@ pub(crate) fn three_of(text: Option<&[u8]>) -> Option<(&[u8], &[u8], &[u8])>
 }
 
 /// Whether a line is empty or a comment.
-pub(crate) fn is_skipped(line: &[u8]) -> bool
+pub fn is_skipped(line: &[u8]) -> bool
     ensures { result ≡ is_skipped line.now }
 {
     match line {

@@ -1,7 +1,9 @@
 //! The texts of a run: the trace that is read and printed, and the replies and the tree that are printed.
 #![tactic(auto)]
 
-pub use field::{is_name, read_number, read_signed};
+pub use field::{
+    cut, first_line, is_name, is_skipped, one_of, read_number, read_signed, three_of, two_of,
+};
 pub use laws::{faults_come_first, fields_are_texts, reads_or_refuses};
 pub use print::{print_text, push_end_line, refusal_line};
 pub use read::read_trace;
@@ -9,7 +11,7 @@ pub use refusal::{Fault, Refusal, TraceRefusal};
 pub use reply_line::push_reply_line;
 pub use text_field::{FieldRefusal, read_text};
 pub use trace::{BackendLine, CallLine, Mode, Trace};
-pub use trace_call::{DataCall, Descriptor, NO_NUMBER, TraceCall, number_in_reply};
+pub use trace_call::{Descriptor, NO_NUMBER, TraceCall, number_in_reply};
 pub use trace_lines::print_trace;
 pub use tree_line::push_tree_line;
 

@@ -84,11 +84,14 @@ fn bytes_in(alloc: Global, field: &[u8]) -> Result<Option<Vec<u8>>, AllocError>
 fn text_in(alloc: Global, field: &[u8]) -> Result<Option<Vec<u8>>, AllocError>
     ensures { IfOk result (λ text. option_map (λ v. v.items) text ≡ text_in field.now) }
 {
-    if field == b"%_".as_slice() {
-        return Ok(Some(Vec::new(alloc)));
-    }
     if field.is_empty() {
         return Ok(None);
+    }
+    if has_plain_bytes(field) {
+        return Ok(Some(Vec::from_slice(alloc, field)?));
+    }
+    if field == b"%_".as_slice() {
+        return Ok(Some(Vec::new(alloc)));
     }
     bytes_in(alloc, field)
 }

@@ -1,9 +1,8 @@
 ghost use Rattle.std.specs.Prelude.{◌≡◌};
 ghost use Rattle.trace_text.specs.TraceCalls.{data_call_on, file_call, number_in_reply, number_of, number_of_call};
 
-use file_store::Whence;
-use path_walk::{Call, OpenFlags, Reply};
-use wf_core::{PathText, Text};
+use path_walk::{Call, DataCall, OpenFlags, Reply};
+use wf_core::PathText;
 
 /// The number for a reply that has none. No descriptor has it, so a call on it replies `EBADF`.
 pub const NO_NUMBER: u32 = 4_294_967_295;
@@ -15,19 +14,6 @@ pub enum Descriptor {
     Number(u32),
     /// By the reply to that call of the same thread, counted from 1.
     ReplyOf(u32),
-}
-
-/// What a call does with the file of one descriptor. Offsets and sizes are in bytes, from `-OFFSET_MAX` to `OFFSET_MAX`
-/// in a trace that was read.
-#[derive(Debug, Drop)]
-pub enum DataCall {
-    Read(u32),
-    Pread(u32, i64),
-    Write(Text),
-    Pwrite(Text, i64),
-    Seek(i64, Whence),
-    Ftruncate(i64),
-    Fstat,
 }
 
 /// A call of a trace: a file call that may name descriptors by the replies to earlier calls.
@@ -50,7 +36,7 @@ pub enum TraceCall {
     Dup(Descriptor),
     /// The descriptor, and the target.
     Dup2(Descriptor, Descriptor),
-    Uses(Descriptor, DataCall),
+    Data(Descriptor, DataCall),
 }
 
 /// The descriptor's number in a reply, or `NO_NUMBER`.
@@ -87,31 +73,30 @@ impl Descriptor {
     }
 }
 
-impl DataCall {
-    fn on(self, number: u32) -> Call
-        ensures { result ≡ data_call_on number self }
-    {
-        match self {
-            DataCall::Read(count) => Call::Read { number, count },
-            DataCall::Pread(count, offset) => Call::Pread {
-                number,
-                count,
-                offset,
-            },
-            DataCall::Write(bytes) => Call::Write { number, bytes },
-            DataCall::Pwrite(bytes, offset) => Call::Pwrite {
-                number,
-                bytes,
-                offset,
-            },
-            DataCall::Seek(offset, whence) => Call::Seek {
-                number,
-                offset,
-                whence,
-            },
-            DataCall::Ftruncate(size) => Call::Ftruncate { number, size },
-            DataCall::Fstat => Call::Fstat(number),
-        }
+/// The call on the descriptor of that number.
+fn data_call_on(number: u32, call: DataCall) -> Call
+    ensures { result ≡ data_call_on number call }
+{
+    match call {
+        DataCall::Read(count) => Call::Read { number, count },
+        DataCall::Pread(count, offset) => Call::Pread {
+            number,
+            count,
+            offset,
+        },
+        DataCall::Write(bytes) => Call::Write { number, bytes },
+        DataCall::Pwrite(bytes, offset) => Call::Pwrite {
+            number,
+            bytes,
+            offset,
+        },
+        DataCall::Seek(offset, whence) => Call::Seek {
+            number,
+            offset,
+            whence,
+        },
+        DataCall::Ftruncate(size) => Call::Ftruncate { number, size },
+        DataCall::Fstat => Call::Fstat(number),
     }
 }
 
@@ -137,7 +122,7 @@ impl TraceCall {
                 number: descriptor.number(numbers),
                 target: target.number(numbers),
             },
-            TraceCall::Uses(descriptor, call) => call.on(descriptor.number(numbers)),
+            TraceCall::Data(descriptor, call) => data_call_on(descriptor.number(numbers), call),
         }
     }
 }

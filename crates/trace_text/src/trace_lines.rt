@@ -8,9 +8,9 @@ ghost use Rattle.trace_text.specs.Traces.{thread_name, traced};
 
 use crate::print::{append_field, append_number, append_signed, append_sized};
 use crate::trace::{BackendLine, CallLine, Trace};
-use crate::trace_call::{DataCall, Descriptor, TraceCall};
+use crate::trace_call::{Descriptor, TraceCall};
 use file_store::{Access, Whence};
-use path_walk::OpenFlags;
+use path_walk::{DataCall, OpenFlags};
 use std::alloc::{AllocError, Global};
 use wf_core::{PathText, Text};
 
@@ -174,7 +174,7 @@ fn append_call(text: &mut Vec<u8>, call: &TraceCall) -> Result<(), AllocError>
             append_use(text, b"dup2", *descriptor)?;
             append_use(text, b"", *target)
         }
-        TraceCall::Uses(descriptor, call) => append_data_call(text, *descriptor, call),
+        TraceCall::Data(descriptor, call) => append_data_call(text, *descriptor, call),
     }
 }
 

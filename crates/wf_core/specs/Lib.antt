@@ -5,3 +5,4 @@ pub mod Bytes
 pub mod Errors
 pub mod Statuses
 pub mod Memory
+pub mod Runs

@@ -2,6 +2,7 @@
 //! traits by which a run reads, writes and waits for its gate.
 #![tactic(auto)]
 
+pub use command::{Command, Due, finish, run_command};
 pub use errno::Errno;
 pub use gate::{Gate, OpenGate};
 pub use ids::{BackendId, DescriptionId, DirId, FileId, LinkId};
@@ -17,6 +18,7 @@ pub use sink::{MemSink, Sink, StdSink, write_text};
 pub use source::{Failed, InputFault, MemSource, Source, StdSource, read_input};
 pub use text::Text;
 
+mod command;
 mod errno;
 mod gate;
 mod ids;

@@ -1,40 +1,8 @@
-use Rattle.std.proofs.Common.{ap, sym, ◌∙◌, length}
-use Rattle.atomic_table.specs.Table.{Me}
-use Rattle.task_ring.specs.Ring.{RingView}
-use Rattle.post_core.specs.declared.slots.Item.{Item}
-use Rattle.post_core.specs.declared.views.View.{View}
-use Rattle.post_core.specs.Kept.{listed}
-use Rattle.post_core.specs.SendSteps.{last_held}
-use Rattle.post_core.specs.Views.{pass_of}
-use Rattle.post_core.proofs.SendPuts.{has_turn, holds_ring, next_before, pushes, sent_is}
+use Rattle.post_core.proofs.Trying.{sent_before}
+use Rattle.post_core.specs.Steps.{all_meant}
 use Rattle.post_core.proofs.put_jobs.put_in_turn.Goals as goal
-
-pub count_put-nth-requires-clause-job : goal.count_put-nth-requires-clause-job
-count_put-nth-requires-clause-job g c =
-    let t = c.wait_for_turn.ensures.taken in let h = c.in_default.ensures.ok in
-    let o = pushes g.J.Meant.meaning c.args.place (record { mark = c.args.mark; job = c.args.job }) c.args.seat.now.me.0 c.wait_for_turn.new.seat.me c.push_held.new.seat.me t.0 c.args.seat.now.me.1 t.1 h.0 h.1 h.2 h.3 h.4 in (
-      record { mark = c.args.mark; job = c.args.job },
-      ap (λ (x : Me (RingView (Item g.row.J.Denot)) (View g.row.J-Meaning.Denot)). last_held x.1) o.is ∙ o.last,
-      (c.requires.mark.0 ∙ ap (λ (x : Me (RingView (Item g.row.J.Denot)) (View g.row.J-Meaning.Denot)). (pass_of x.0).number) (sym o.is), c.requires.mark.1 ∙ ap (λ (x : Me (RingView (Item g.row.J.Denot)) (View g.row.J-Meaning.Denot)). length (listed (pass_of x.0).own c.args.place)) (sym o.is)),
-      c.requires.suits,
-    )
-
-pub give_turn-requires-2-clause-turn : goal.give_turn-requires-2-clause-turn
-give_turn-requires-2-clause-turn g c =
-    let t = c.wait_for_turn.ensures.taken in let h = c.in_default.ensures.ok in
-    let o = pushes g.J.Meant.meaning c.args.place (record { mark = c.args.mark; job = c.args.job }) c.args.seat.now.me.0 c.wait_for_turn.new.seat.me c.push_held.new.seat.me t.0 c.args.seat.now.me.1 t.1 h.0 h.1 h.2 h.3 h.4 in
-    has_turn g.J.Meant.meaning c.args.place (record { mark = c.args.mark; job = c.args.job }) c.args.seat.now.me.0 c.count_put-nth.result c.push_held.new.seat.me c.count_put-nth.new.seat.me o (c.count_put-nth.ensures.counted (record { mark = c.args.mark; job = c.args.job }) (ap (λ (x : Me (RingView (Item g.row.J.Denot)) (View g.row.J-Meaning.Denot)). last_held x.1) o.is ∙ o.last)) c.requires.referenced.0.1
-
-pub give_turn-requires-2-clause-holds : goal.give_turn-requires-2-clause-holds
-give_turn-requires-2-clause-holds g c =
-    let t = c.wait_for_turn.ensures.taken in let h = c.in_default.ensures.ok in
-    let o = pushes g.J.Meant.meaning c.args.place (record { mark = c.args.mark; job = c.args.job }) c.args.seat.now.me.0 c.wait_for_turn.new.seat.me c.push_held.new.seat.me t.0 c.args.seat.now.me.1 t.1 h.0 h.1 h.2 h.3 h.4 in
-    holds_ring g.J.Meant.meaning c.args.place (record { mark = c.args.mark; job = c.args.job }) c.args.seat.now.me.0 c.count_put-nth.result c.push_held.new.seat.me c.count_put-nth.new.seat.me o (c.count_put-nth.ensures.counted (record { mark = c.args.mark; job = c.args.job }) (ap (λ (x : Me (RingView (Item g.row.J.Denot)) (View g.row.J-Meaning.Denot)). last_held x.1) o.is ∙ o.last)) c.requires.referenced.0.1
 
 pub returns-clause-put : goal.returns-clause-put
 returns-clause-put g c =
-    let t = c.wait_for_turn.ensures.taken in let h = c.in_default.ensures.ok in
-    let o = pushes g.J.Meant.meaning c.args.place (record { mark = c.args.mark; job = c.args.job }) c.args.seat.now.me.0 c.wait_for_turn.new.seat.me c.push_held.new.seat.me t.0 c.args.seat.now.me.1 t.1 h.0 h.1 h.2 h.3 h.4 in (
-      next_before g.J.Meant.meaning c.args.place (record { mark = c.args.mark; job = c.args.job }) c.args.seat.now.me.0 c.count_put-nth.result c.push_held.new.seat.me o c.count_put-nth.ensures.nth,
-      sent_is g.J.Meant.meaning c.args.place (record { mark = c.args.mark; job = c.args.job }) c.args.seat.now.me.0 c.count_put-nth.result c.push_held.new.seat.me c.count_put-nth.new.seat.me o (c.count_put-nth.ensures.counted (record { mark = c.args.mark; job = c.args.job }) (ap (λ (x : Me (RingView (Item g.row.J.Denot)) (View g.row.J-Meaning.Denot)). last_held x.1) o.is ∙ o.last)) c.requires.referenced.0.1 c.give_turn-2.new.seat.me c.give_turn-2.ensures.given,
-    )
+    let t = c.wait_for_turn.ensures.taken in
+    sent_before c.args.place t.0 (all_meant g.J.Meant.meaning t.0.items) (record { mark = c.args.mark; meaning = g.J.Meant.meaning c.args.job }) c.args.seat.now.me c.wait_for_turn.new.seat.me c.put_with_turn.new.seat.me t.1 c.put_with_turn.result c.put_with_turn.ensures.put

@@ -68,6 +68,14 @@ fstat 1 = ok file 2
 fstat 4 = ok file 2
 pread 0 9 0 = ok XP
 read 0 9 = ok %_
+# What the access mode refuses comes before what no file can hold.
+ftruncate 0 16777217 = EINVAL
+ftruncate 1 16777217 = EFBIG
+pwrite 0 a 16777216 = EBADF
+seek 0 16777216 set = ok 16777216
+write 0 a = EBADF
+seek 2 16777216 set = ok 16777216
+write 2 a = EFBIG
 ";
 
 /// A directory's descriptor with each call.

@@ -154,6 +154,39 @@ open /self r,creat,excl = EEXIST
 lstat /self = ok link 4
 ";
 
+/// Flags that act on the file to which a last link leads.
+const THROUGH_LINKS: &str = "
+open /f w,creat = ok 0
+write 0 abc = ok 3
+symlink f /lf = ok
+symlink new /ln = ok
+open /lf w,append = ok 1
+write 1 d = ok 1
+seek 1 0 cur = ok 4
+open /lf rw,creat,append = ok 2
+write 2 e = ok 1
+pread 2 9 0 = ok abcde
+open /lf r,trunc = EINVAL
+open /lf/ w,trunc = ENOTDIR
+open /lf w,trunc,directory = ENOTDIR
+open /lf w,trunc,nofollow = ELOOP
+open /lf w,creat,excl,trunc = EEXIST
+stat /f = ok file 5
+open /lf w,trunc = ok 3
+stat /f = ok file 0
+lstat /lf = ok link 1
+write 3 xy = ok 2
+open /lf rw,creat,trunc,append = ok 4
+stat /lf = ok file 0
+write 1 z = ok 1
+pread 4 9 0 = ok z
+open /ln w,trunc = ENOENT
+open /ln w,append = ENOENT
+open /ln rw,creat,trunc,append = ok 5
+write 5 z = ok 1
+stat /new = ok file 1
+";
+
 /// A file is made beside its directory, in the backend that its path leads to.
 const BACKENDS: &str = "
 open /m/f w,creat = ok 0
@@ -171,6 +204,11 @@ rename /m/f /m/d/f = ok
 stat /m/d/f = ok file 2
 stat /m/f = ENOENT
 ";
+
+#[test]
+fn flags_through_links(rt: HostRuntime) -> Result<(), Fail> {
+    expect(&rt, rt.alloc(), "", THROUGH_LINKS)
+}
 
 #[test]
 fn flags(rt: HostRuntime) -> Result<(), Fail> {

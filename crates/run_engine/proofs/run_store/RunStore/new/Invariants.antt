@@ -1,5 +1,6 @@
 use Rattle.std.proofs.Common.{◌≡◌, ◌∷◌, [], map, take}
-use Rattle.trace_text.specs.SoloText.{mounts_from, opening_backend}
+use Rattle.path_walk.specs.Store.{opening_backend}
+use Rattle.trace_text.specs.SoloText.{mounts_from}
 use Rattle.run_engine.proofs.run_store.RunStore.new.Given as goal
 
 -- the root's backend, and one for each line so far

@@ -1,0 +1,10 @@
+mod IdLemmas
+mod CacheLemmas
+mod PartLemmas
+mod NeedLemmas
+mod Collecting
+mod ReadLemmas
+mod FoldLemmas
+mod HoldLemmas
+mod InputLemmas
+mod RunLemmas

@@ -1,0 +1,9 @@
+pub mod Chunks
+pub mod Stores
+pub mod CacheFold
+pub mod Reads
+pub mod Steps
+pub mod Laws
+pub mod Inputs
+pub mod ChunksText
+pub mod Command

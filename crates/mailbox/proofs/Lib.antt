@@ -1,0 +1,5 @@
+pub mod ClosingLemmas
+pub mod DeedLemmas
+pub mod HoldingLemmas
+pub mod NoticeLemmas
+pub mod TurnLemmas
