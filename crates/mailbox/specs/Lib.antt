@@ -1,5 +1,6 @@
 pub mod Boxes
 pub mod Calls
+pub mod CheckedBoxes
 pub mod Checks
 pub mod Deeds
 pub mod Holding

@@ -5,7 +5,8 @@ ghost use Rattle.proxy_laws.specs.declared.records.Started.TheVariants.{Direct};
 ghost use Rattle.post_core.specs.OwnerViews.{IsExecOf, IsOwnerOf, exec_place, exec_view, owner_view};
 ghost use Rattle.post_core.specs.SendParts.{HasPlace, post_places, post_target, use_place};
 ghost use Rattle.post_core.specs.Views.{owner_of};
-ghost use Rattle.mailbox.specs.Boxes.{IsAtOf, IsMailboxOf, IsRestOf, at_left, at_view, is_at_work, is_unfinished, left_start, mailbox_view};
+ghost use Rattle.mailbox.specs.Boxes.{IsAtOf, IsMailboxOf, IsRestOf, at_left, at_view, is_at_work, is_unfinished, mailbox_view};
+ghost use Rattle.mailbox.specs.CheckedBoxes.{HasChecked};
 ghost use Rattle.mailbox.specs.Holding.{HoldsActive};
 ghost use Rattle.mailbox.specs.Turns.{HasFoundNothing, HasRun, WereRun, counted, jobs_in, start_here};
 
@@ -188,23 +189,8 @@ impl<J: Meant> Mailbox<J> {
     ) -> Result<u32, AllocError>
         requires mailbox { IsMailboxOf post.now self.old }
         requires target { R.target runner.old ≡ post_target post.now }
-        ensures target { R.target runner.new ≡ R.target runner.old }
-        ensures mailbox { IsMailboxOf post.now self.new }
-
-        // What the runner was called for, and which jobs the owner took and settled so.
-        ensures ran { HasRun R.did R.held (post_target post.now) (left_start self.old)
-            runner.old runner.new (mailbox_view self.old) (mailbox_view self.new) }
-
-        // A runner that held just the active jobs still does.
-        ensures held { HoldsActive (post_target post.now) (post_places post.now)
-            (jobs_in (mailbox_view self.old)) (R.held runner.old)
-            → HoldsActive (post_target post.now) (post_places post.now)
-            (jobs_in (mailbox_view self.new)) (R.held runner.new) }
-
-        // So many notices were got, and then none was found.
-        ensures ok { IfOk result (λ count. HasFoundNothing count
-            (mailbox_view self.old) (mailbox_view self.new) × (is_unfinished self.new ≡ false)) }
-        ensures err { IfErr result (λ e. is_unfinished self.new ≡ true) }
+        ensures { HasChecked R.target R.did R.held post.now
+            self.old self.new runner.old runner.new result }
     {
         let at = take_out(&mut self.at);
         let (at, result) = check_at(rt, post, at, runner);
@@ -221,17 +207,8 @@ impl<J: Meant> Mailbox<J> {
     ) -> Result<u32, AllocError>
         requires mailbox { IsMailboxOf post.now self.old }
         requires target { R.target runner.old ≡ post_target post.now }
-        ensures target { R.target runner.new ≡ R.target runner.old }
-        ensures mailbox { IsMailboxOf post.now self.new }
-        ensures ran { HasRun R.did R.held (post_target post.now) (left_start self.old)
-            runner.old runner.new (mailbox_view self.old) (mailbox_view self.new) }
-        ensures held { HoldsActive (post_target post.now) (post_places post.now)
-            (jobs_in (mailbox_view self.old)) (R.held runner.old)
-            → HoldsActive (post_target post.now) (post_places post.now)
-            (jobs_in (mailbox_view self.new)) (R.held runner.new) }
-        ensures ok { IfOk result (λ count. HasFoundNothing count
-            (mailbox_view self.old) (mailbox_view self.new) × (is_unfinished self.new ≡ false)) }
-        ensures err { IfErr result (λ e. is_unfinished self.new ≡ true) }
+        ensures { HasChecked R.target R.did R.held post.now
+            self.old self.new runner.old runner.new result }
     {
         let at = take_out(&mut self.at);
         let at = park_at(rt, post, at);
@@ -255,7 +232,8 @@ impl<J: Meant> Mailbox<J> {
         ensures mailbox { IsMailboxOf post.now self.new }
 
         // No notice was got.
-        ensures got { (owner_of (mailbox_view self.new)).got ≡ (owner_of (mailbox_view self.old)).got }
+        ensures got { (owner_of (mailbox_view self.new)).got
+            ≡ (owner_of (mailbox_view self.old)).got }
 
         // Each job that was run started directly; after Ok they are as many as is answered.
         ensures ran { (n : ℕ) × WereRun R.did R.held (post_target post.now) (λ s. s ≡ Direct) n

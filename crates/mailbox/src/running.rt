@@ -42,13 +42,15 @@ fn run_taken<J: Meant, R: Runner<J>>(
     requires suits { J.suits (post_target post.now) (exec_place exec.old) mark (J.meaning job) }
     requires taken { (s : Started)
         × (slice_get (listed (jobs_in (exec_view exec.old)) (exec_place exec.old)) nth
-        ≡ Some (kept_job (run_job (post_target post.now) (exec_place exec.old) nth mark (J.meaning job)) s None)) }
+        ≡ Some (kept_job (run_job (post_target post.now) (exec_place exec.old) nth mark
+        (J.meaning job)) s None)) }
     ensures exec { IsExecOf post.now exec.new × (exec_place exec.new ≡ exec_place exec.old) }
     ensures target { R.target runner.new ≡ R.target runner.old }
     ensures ran { (ran : Ran R.Tail)
-        × R.did runner.old (run_calls (run_job (post_target post.now) (exec_place exec.old) nth mark (J.meaning job)) ran) runner.new
-        × (R.held runner.new ≡ R.held runner.old
-        ++ held_by (run_job (post_target post.now) (exec_place exec.old) nth mark (J.meaning job)) ran)
+        × R.did runner.old (run_calls (run_job (post_target post.now) (exec_place exec.old)
+        nth mark (J.meaning job)) ran) runner.new
+        × (R.held runner.new ≡ R.held runner.old ++ held_by
+        (run_job (post_target post.now) (exec_place exec.old) nth mark (J.meaning job)) ran)
         × (exec_view exec.new ≡ view_after_run (exec_place exec.old) nth ran (exec_view exec.old)) }
 {
     let place = exec.place();

@@ -112,6 +112,14 @@ module _ {J M : Type 0} {g : Ghosts J M} where
     pub next : IsNextAt place (owing_nth owing) v
     pub kept : owing_view owing ≡ job_sent place (owing_nth owing) (record { mark = next_own_mark place tag v; meaning = meant }) v
 
+  -- What a pass with a reference comes to that is to put a job: it has put it, or it has put nothing and is as it was,
+  -- and the job is handed back.
+  abbrev pub IsPutFor : Post J M → (place tag : ℕ) → M → View M → Owing J M g → Type 0
+  IsPutFor post place tag meant v owing = IsOwingOf post owing × IsSent place tag meant v owing
+
+  abbrev pub IsHandedBack : Post J M → J → View M → RefPass J M g → J → Type 0
+  IsHandedBack post job v pass back = IsRefPassOf post pass × (ref_view pass ≡ v) × (back ≡ job)
+
   abbrev pub IfHeld : RefAnswer J M g → (RefPass J M g → Type 0) → Type 0
   IfHeld (taken.Held pass) P = P pass
   IfHeld (taken.Closed pass) P = Unit {0}

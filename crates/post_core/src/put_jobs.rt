@@ -104,7 +104,8 @@ pub(crate) fn put_with_turn<J: Meant>(
     requires table { IsOneTable seat.old.table_id shared.now.table_id shared.now.key.places }
     requires near { place < shared.now.key.places }
     requires pass { seat.old.me.0.owner ≡ None }
-    requires turn { SenderHasTurn J.meaning place (place_given place seat.old.me.0, []) seat.old.me }
+    requires turn { SenderHasTurn J.meaning place
+        (place_given place seat.old.me.0, []) seat.old.me }
     requires mark { IsNextMark place mark seat.old.me.0 }
     requires room { mark.seq < own_marks_max }
     requires suits { J.suits shared.now.key.target place mark (J.meaning job) }

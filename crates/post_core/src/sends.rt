@@ -2,7 +2,7 @@
 
 ghost use Rattle.std.specs.Prelude.{◌≡◌, false};
 ghost use Rattle.proxy_laws.specs.declared.actors.Phase.TheVariants.{Idle, Messenger, Referenced};
-ghost use Rattle.post_core.specs.SendParts.{HasPlace, IfClosed, IfHeld, IfMessenger, IfNoMemory, IfPut, IfQuiet, IsNoticeOf, IsOwingOf, IsPassOf, IsRefPassOf, IsSent, IsUseOf, next_own_mark, notice_place, notice_view, owing_nth, owing_place, owing_view, pass_view, post_target, ref_view, use_place};
+ghost use Rattle.post_core.specs.SendParts.{HasPlace, IfClosed, IfHeld, IfMessenger, IfNoMemory, IfPut, IfQuiet, IsHandedBack, IsNoticeOf, IsOwingOf, IsPassOf, IsPutFor, IsRefPassOf, IsUseOf, next_own_mark, notice_place, notice_view, owing_nth, owing_place, owing_view, pass_view, post_target, ref_view, use_place};
 ghost use Rattle.post_core.specs.SendSteps.{has_seen_closed, none_seen};
 ghost use Rattle.post_core.specs.Views.{at_phase};
 
@@ -84,10 +84,9 @@ impl<J: Meant> RefPass<J> {
         requires used { IsUseOf post.now (ref_view self) place_use.now }
         requires suits { J.suits (post_target post.now) (use_place place_use.now)
             (next_own_mark (use_place place_use.now) tag (ref_view self)) (J.meaning job) }
-        ensures put { IfPut result (λ owing. IsOwingOf post.now owing
-            × IsSent (use_place place_use.now) tag (J.meaning job) (ref_view self) owing) }
-        ensures no_memory { IfNoMemory result (λ pass back. IsRefPassOf post.now pass
-            × (ref_view pass ≡ ref_view self) × (back ≡ job)) }
+        ensures put { IfPut result
+            (IsPutFor post.now (use_place place_use.now) tag (J.meaning job) (ref_view self)) }
+        ensures no_memory { IfNoMemory result (IsHandedBack post.now job (ref_view self)) }
     {
         let RefPass { mut hold } = self;
         let place = place_use.place;

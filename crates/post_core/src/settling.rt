@@ -71,7 +71,8 @@ impl<J: Meant> Emptied<J> {
         requires cancelled { fate ≡ Cancelled }
         ensures owner { IsEmptiedOf post.now self.new
             × (emptied_view self.new ≡ job_settled place nth Cancelled (emptied_view self.old)) }
-        ensures note { IsNoteOf post.now result × (note_view result ≡ noted (emptied_view self.new)) }
+        ensures note { IsNoteOf post.now result
+            × (note_view result ≡ noted (emptied_view self.new)) }
     {
         let note = settle(&post.table.shared, &mut self.hold.seat, place, nth, fate);
         keep_fate(&mut self.hold.jobs, place, nth, fate);

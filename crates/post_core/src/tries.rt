@@ -3,7 +3,7 @@
 ghost use Rattle.std.specs.Prelude.{◌≡◌, ◌<◌, false, length};
 ghost use Rattle.proxy_laws.specs.declared.actors.Phase.TheVariants.{Referenced};
 ghost use Rattle.post_core.specs.Kept.{listed};
-ghost use Rattle.post_core.specs.SendParts.{HasPlace, IsOwingOf, IsPassOf, IsRefPassOf, IsSent, IsUseOf, next_own_mark, pass_view, post_target, ref_view, use_place};
+ghost use Rattle.post_core.specs.SendParts.{HasPlace, IsHandedBack, IsPassOf, IsPutFor, IsRefPassOf, IsUseOf, next_own_mark, pass_view, post_target, ref_view, use_place};
 ghost use Rattle.post_core.specs.SendSteps.{has_seen_closed, own_marks_max};
 ghost use Rattle.post_core.specs.TryParts.{HasFoundNone, HasMissedRef, HasMissedTurn, IfBusyNow, IfClosedNow, IfHeldNow, IfNoMemoryNow, IfPutNow, IfTurnMissed};
 ghost use Rattle.post_core.specs.Views.{at_phase, pass_of};
@@ -81,10 +81,9 @@ impl<J: Meant> RefPass<J> {
             < own_marks_max }
         requires suits { J.suits (post_target post.now) (use_place place_use.now)
             (next_own_mark (use_place place_use.now) tag (ref_view self)) (J.meaning job) }
-        ensures put { IfPutNow result (λ owing. IsOwingOf post.now owing
-            × IsSent (use_place place_use.now) tag (J.meaning job) (ref_view self) owing) }
-        ensures no_memory { IfNoMemoryNow result (λ pass back. IsRefPassOf post.now pass
-            × (ref_view pass ≡ ref_view self) × (back ≡ job)) }
+        ensures put { IfPutNow result
+            (IsPutFor post.now (use_place place_use.now) tag (J.meaning job) (ref_view self)) }
+        ensures no_memory { IfNoMemoryNow result (IsHandedBack post.now job (ref_view self)) }
 
         // Somebody had the turn, and the pass keeps the exchange that failed.
         ensures busy { IfTurnMissed result (λ pass back word value. IsRefPassOf post.now pass

@@ -1,5 +1,5 @@
 -- What comes of a send.
-use Rattle.std.specs.Prelude.{◌≡◌, ℕ, ◌+◌, ◌⊎◌}
+use Rattle.std.specs.Prelude.{◌≡◌, ℕ, ◌⊎◌}
 use Rattle.proxy_laws.specs.declared.actors.Phase.TheVariants as phase
 use Rattle.post_core.specs.declared.meant.Meant.{Ghosts}
 use Rattle.post_core.specs.declared.post.SendPass.{SendPass}

@@ -10,11 +10,12 @@ ghost use Rattle.post_core.specs.Records.{AreSettled};
 ghost use Rattle.post_core.specs.SendParts.{HasPlace, post_places, post_target, use_place};
 ghost use Rattle.post_core.specs.Views.{job_settled, owner_of};
 ghost use Rattle.mailbox.specs.declared.calls.RunCall.TheVariants.{Tell};
-ghost use Rattle.mailbox.specs.Boxes.{IsMailboxOf, is_unfinished, left_start, mailbox_view};
+ghost use Rattle.mailbox.specs.Boxes.{IsMailboxOf, is_unfinished, mailbox_view};
+ghost use Rattle.mailbox.specs.CheckedBoxes.{HasChecked};
 ghost use Rattle.mailbox.specs.Deeds.{MayFinish};
 ghost use Rattle.mailbox.specs.Holding.{HoldsActive};
 ghost use Rattle.mailbox.specs.Shut.{WasShut, counted_long};
-ghost use Rattle.mailbox.specs.Turns.{HasFoundNothing, HasRun, WereRun, counted, jobs_in};
+ghost use Rattle.mailbox.specs.Turns.{WereRun, counted, jobs_in};
 ghost use Rattle.proxy_queue.specs.Sets.{set_post};
 
 use crate::queue_set::QueueSet;
@@ -34,24 +35,8 @@ impl<J: Meant> QueueSet<J> {
     ) -> Result<u32, AllocError>
         requires mailbox { IsMailboxOf (set_post self.now) mailbox.old }
         requires target { R.target runner.old ≡ post_target (set_post self.now) }
-        ensures target { R.target runner.new ≡ R.target runner.old }
-        ensures mailbox { IsMailboxOf (set_post self.now) mailbox.new }
-
-        // What the runner was called for, and which jobs the owner took and settled so.
-        ensures ran { HasRun R.did R.held (post_target (set_post self.now)) (left_start mailbox.old)
-            runner.old runner.new (mailbox_view mailbox.old) (mailbox_view mailbox.new) }
-
-        // A runner that held just the active jobs still does.
-        ensures held { HoldsActive (post_target (set_post self.now)) (post_places (set_post self.now))
-            (jobs_in (mailbox_view mailbox.old)) (R.held runner.old)
-            → HoldsActive (post_target (set_post self.now)) (post_places (set_post self.now))
-            (jobs_in (mailbox_view mailbox.new)) (R.held runner.new) }
-
-        // So many notices were got, and then none was found.
-        ensures ok { IfOk result (λ count. HasFoundNothing count
-            (mailbox_view mailbox.old) (mailbox_view mailbox.new)
-            × (is_unfinished mailbox.new ≡ false)) }
-        ensures err { IfErr result (λ e. is_unfinished mailbox.new ≡ true) }
+        ensures { HasChecked R.target R.did R.held (set_post self.now)
+            mailbox.old mailbox.new runner.old runner.new result }
     {
         mailbox.check(rt, &self.post, runner)
     }
@@ -65,18 +50,8 @@ impl<J: Meant> QueueSet<J> {
     ) -> Result<u32, AllocError>
         requires mailbox { IsMailboxOf (set_post self.now) mailbox.old }
         requires target { R.target runner.old ≡ post_target (set_post self.now) }
-        ensures target { R.target runner.new ≡ R.target runner.old }
-        ensures mailbox { IsMailboxOf (set_post self.now) mailbox.new }
-        ensures ran { HasRun R.did R.held (post_target (set_post self.now)) (left_start mailbox.old)
-            runner.old runner.new (mailbox_view mailbox.old) (mailbox_view mailbox.new) }
-        ensures held { HoldsActive (post_target (set_post self.now)) (post_places (set_post self.now))
-            (jobs_in (mailbox_view mailbox.old)) (R.held runner.old)
-            → HoldsActive (post_target (set_post self.now)) (post_places (set_post self.now))
-            (jobs_in (mailbox_view mailbox.new)) (R.held runner.new) }
-        ensures ok { IfOk result (λ count. HasFoundNothing count
-            (mailbox_view mailbox.old) (mailbox_view mailbox.new)
-            × (is_unfinished mailbox.new ≡ false)) }
-        ensures err { IfErr result (λ e. is_unfinished mailbox.new ≡ true) }
+        ensures { HasChecked R.target R.did R.held (set_post self.now)
+            mailbox.old mailbox.new runner.old runner.new result }
     {
         mailbox.wait_check(rt, &self.post, runner)
     }
@@ -106,7 +81,8 @@ impl<J: Meant> QueueSet<J> {
             (λ s. s ≡ Direct) n runner.old runner.new
             (mailbox_view mailbox.old) (mailbox_view mailbox.new)
             × IfOk result (λ count. count ≡ counted n) }
-        ensures held { HoldsActive (post_target (set_post self.now)) (post_places (set_post self.now))
+        ensures held { HoldsActive
+            (post_target (set_post self.now)) (post_places (set_post self.now))
             (jobs_in (mailbox_view mailbox.old)) (R.held runner.old)
             → HoldsActive (post_target (set_post self.now)) (post_places (set_post self.now))
             (jobs_in (mailbox_view mailbox.new)) (R.held runner.new) }
@@ -153,7 +129,8 @@ impl<J: Meant> QueueSet<J> {
         requires target { R.target runner.old ≡ post_target (set_post self.now) }
 
         // The runner holds just the jobs that are active.
-        requires active { HoldsActive (post_target (set_post self.now)) (post_places (set_post self.now))
+        requires active { HoldsActive
+            (post_target (set_post self.now)) (post_places (set_post self.now))
             (jobs_in (mailbox_view mailbox)) (R.held runner.old) }
         ensures target { R.target runner.new ≡ R.target runner.old }
 
