@@ -1,15 +1,12 @@
 -- The cache as `lru` shows it, and the chunks that it lists.
-use Rattle.std.proofs.Common.{◌≡◌, ℕ, zero, suc, ◌+◌, ◌-◌, ◌<◌, ◌≤◌, Bool, true, false, cond, ◌⊎◌, ◌||◌, List, [], ◌∷◌, length, take, map, Option, None, Some, IfSome, is_some, Contains, refl, sym, ap, ◌∙◌, subst, arith, rules, inl, inr}
+use Rattle.std.proofs.Common.{◌≡◌, ℕ, zero, suc, ◌-◌, ◌<◌, true, false, cond, ◌||◌, List, [], ◌∷◌, take, Option, None, Some, is_some, refl, sym, ap, ◌∙◌, arith}
 use Rattle.std.specs.Option.{option_map_or}
 use Rattle.std.specs.Map.{keys_of, lookup, lookup_entry, remove_entry}
-use Rattle.std.specs.List.{IsDistinct}
-use Rattle.std.proofs.lemmas.List.{length-map, length-take, take-map}
-use Rattle.lru.specs.LruCache.{LruCache, lru_cache, promoted, put_entries}
-use Rattle.lru.proofs.CallerLemmas.{Contains-lookup, Contains-promoted, Contains-put_entries}
+use Rattle.std.proofs.lemmas.List.{take-map}
+use Rattle.lru.specs.LruCache.{LruCache, promoted, put_entries}
 use Rattle.chunk_backend.specs.declared.chunk.ChunkId.{ChunkId}
 use Rattle.chunk_backend.specs.CacheFold.{is_same, is_listed, without}
-use Rattle.chunk_backend.specs.Reads.{IsCache, IsChunk, Setup}
-use Rattle.chunk_backend.proofs.IdLemmas.{same_ids, distinct_hit, distinct_miss, length_hit}
+use Rattle.chunk_backend.proofs.IdLemmas.{same_ids}
 
 abbrev Entries : Type 0
 Entries = List (ChunkId × List ℕ)

@@ -1,16 +1,14 @@
 -- The bytes of a read, collected chunk by chunk.
-use Rattle.std.proofs.Common.{◌≡◌, ℕ, zero, suc, ◌+◌, ◌-◌, ◌*◌, ◌/◌, ◌<◌, ◌≤◌, min, Bool, true, false, cond, ◌⊎◌, inl, inr, List, [], ◌∷◌, ◌++◌, length, take, drop, Option, None, Some, IfSome, Result, Ok, Err, refl, sym, ap, ◌∙◌, subst, arith, rules, length-append}
+use Rattle.std.proofs.Common.{◌≡◌, ℕ, ◌+◌, ◌-◌, ◌*◌, ◌/◌, ◌<◌, ◌≤◌, min, Bool, true, false, cond, ◌⊎◌, inl, inr, List, [], ◌∷◌, ◌++◌, length, take, drop, Option, None, Some, IfSome, Result, Ok, Err, refl, sym, ap, ◌∙◌, subst, arith, length-append}
 use Rattle.std.proofs.lemmas.List.{drop-drop, take-append-drop, drop-take, take-take}
 use Rattle.std.proofs.lemmas.Bool.{le-ltb}
 use Rattle.wf_core.specs.Faults.{Rose}
 use Rattle.file_store.specs.FileBytes.{part}
 use Rattle.chunk_backend.specs.declared.chunk.ChunkId.{ChunkId}
-use Rattle.chunk_backend.specs.declared.chunk.Fetch.{Fetch}
 use Rattle.chunk_backend.specs.declared.chunk_answer.ReadFault.{ReadFault}
 use Rattle.chunk_backend.specs.declared.chunk_answer.ReadFault.TheVariants.{Failed, NoMemory}
 use Rattle.chunk_backend.specs.Chunks.{bytes_of, chunk_id, chunks_between, fetch_of}
-use Rattle.chunk_backend.specs.CacheFold.{CacheState, ChunksOutcome, after_hit, after_miss, after_fault, chunks_outcome, is_listed, take_chunks}
-use Rattle.chunk_backend.specs.Stores.{is_failing}
+use Rattle.chunk_backend.specs.CacheFold.{CacheState, ChunksOutcome, chunks_outcome, take_chunks}
 use Rattle.chunk_backend.specs.Reads.{HasRoom, IsCache, Seen, Setup, rules_of, state_of}
 use Rattle.chunk_backend.specs.Steps.{AppendsPart, CameSo, Collects, IsTaken, Takes}
 use Rattle.chunk_backend.proofs.NeedLemmas.{needs_next, begins, goes_on}

@@ -1,5 +1,5 @@
 -- Reading the input of `chunks` piece by piece.
-use Rattle.std.proofs.Common.{◌≡◌, ℕ, ◌+◌, ◌==◌, ◌<◌, ◌≤◌, List, ◌∷◌, length, Option, None, Some, Result, Ok, Err, refl, sym, subst, ◌∙◌, ap}
+use Rattle.std.proofs.Common.{◌≡◌, ℕ, ◌+◌, ◌==◌, ◌<◌, ◌≤◌, List, ◌∷◌, length, None, Some, Result, Err, refl, sym, subst, ◌∙◌, ap}
 use Rattle.std.proofs.lemmas.Bool.{le-ltb, lt-ltb}
 use Rattle.wf_core.specs.Limits.{line_max}
 use Rattle.trace_text.specs.declared.refusal.Fault.TheVariants.{Header, LineTooLong}

@@ -3,6 +3,7 @@ mod CacheLemmas
 mod PartLemmas
 mod NeedLemmas
 mod Collecting
+mod Searching
 mod ReadLemmas
 mod FoldLemmas
 mod HoldLemmas

@@ -1,11 +1,10 @@
 -- The chunks that hold the bytes of a read, one after another.
-use Rattle.std.proofs.Common.{◌≡◌, ℕ, zero, suc, ◌+◌, ◌-◌, ◌*◌, ◌/◌, ◌<◌, ◌≤◌, min, nat_lt, Bool, true, false, cond, ◌⊎◌, inl, inr, List, [], ◌∷◌, map, refl, sym, ap, ◌∙◌, subst, arith, rules}
+use Rattle.std.proofs.Common.{◌≡◌, ℕ, zero, suc, ◌+◌, ◌-◌, ◌*◌, ◌/◌, ◌<◌, ◌≤◌, min, nat_lt, true, false, ◌⊎◌, inl, inr, ◌∷◌, map, refl, sym, ap, ◌∙◌, arith}
 use Rattle.std.specs.List.{range_with_len}
 use Rattle.std.proofs.Math.Nat.{add-div_right, div-mul-le_self, lt-div-mul-add, mul-div_cancel, suc-mul}
 use Rattle.std.proofs.lemmas.Nat.{div-mul-add, le-div}
 use Rattle.std.proofs.lemmas.Bool.{le-ltb, lt-ltb, ltb-false, ltb-true}
 use Rattle.std.proofs.lemmas.Bool.Decides.{nat_tests}
-use Rattle.chunk_backend.specs.declared.chunk.ChunkId.{ChunkId}
 use Rattle.chunk_backend.specs.Chunks.{chunk_count, chunk_id, chunks_between}
 
 module _ (chunk : ℕ) (positive : 0 < chunk) (file at end : ℕ) (more : at < end) where

@@ -1,9 +1,9 @@
 -- What a part of a chunk leaves of files by chunks.
-use Rattle.std.proofs.Common.{◌≡◌, ℕ, ◌+◌, ◌-◌, ◌*◌, ◌<◌, ◌≤◌, min, Bool, true, false, ◌⊎◌, List, [], ◌∷◌, ◌++◌, length, take, drop, map, slice_index_or, Option, None, Some, IfSome, is_some, Contains, Result, Ok, Err, OnOk, refl, sym, ap, ◌∙◌, subst, arith, rules, inl, inr}
+use Rattle.std.proofs.Common.{◌≡◌, ℕ, ◌+◌, ◌-◌, ◌*◌, ◌<◌, ◌≤◌, min, Bool, true, false, ◌⊎◌, List, [], ◌∷◌, ◌++◌, length, take, drop, map, slice_index_or, Option, None, Some, IfSome, is_some, Contains, Result, Ok, Err, OnOk, refl, sym, ap, ◌∙◌, subst, arith, inl, inr}
 use Rattle.std.specs.Map.{keys_of, lookup}
 use Rattle.std.specs.List.{IsDistinct}
 use Rattle.std.proofs.lemmas.List.{drop-drop, drop-take, get_or-map, get_or_read, length-append, length-drop, length-map, length-take, take-map, take_min, take-take}
-use Rattle.lru.specs.LruCache.{LruCache, lru_cache, promoted, put_entries}
+use Rattle.lru.specs.LruCache.{LruCache, promoted, put_entries}
 use Rattle.lru.proofs.CallerLemmas.{Contains-lookup, Contains-promoted, Contains-put_entries}
 use Rattle.std.proofs.lemmas.Bool.Decides.{nat_tests}
 use Rattle.wf_core.specs.Faults.{Rose}
@@ -17,7 +17,7 @@ use Rattle.chunk_backend.specs.Chunks.{bytes_of, chunk_bytes, chunk_size, fetch_
 use Rattle.chunk_backend.specs.Stores.{is_full}
 use Rattle.chunk_backend.specs.CacheFold.{CacheState, is_same, is_listed, without}
 use Rattle.chunk_backend.specs.Reads.{HasRoom, IsCache, IsChunk, IsSetup, Seen, Setup, rules_of, state_of}
-use Rattle.chunk_backend.specs.Steps.{AppendsFetched, AppendsKept, AppendsPart, CacheAndBytes, IsFetched, IsPart, IsAskedOnMiss, IsTaken, IsWithin, PartTaken, Takes, kept_chunk, with_part}
+use Rattle.chunk_backend.specs.Steps.{AppendsPart, CacheAndBytes, IsFetched, IsPart, IsAskedOnMiss, IsTaken, IsWithin, PartTaken, Takes, kept_chunk, with_part}
 use Rattle.chunk_backend.proofs.IdLemmas.{same_ids, distinct_hit, distinct_miss, length_hit}
 use Rattle.chunk_backend.proofs.CacheLemmas.{listed, keys_hit, keys_miss, put_missed}
 

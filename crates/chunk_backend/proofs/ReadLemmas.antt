@@ -1,5 +1,5 @@
 -- What a read by chunks promises, from what its chunks came to.
-use Rattle.std.proofs.Common.{◌≡◌, ◌≢◌, ◌↔◌, ℕ, ◌+◌, ◌-◌, ◌<◌, ◌≤◌, min, true, List, [], ◌∷◌, length, take, drop, map, slice_get, slice_index_or, Option, None, Some, IfSome, refl, sym, ap, ◌∙◌, subst, arith}
+use Rattle.std.proofs.Common.{◌≡◌, ℕ, ◌+◌, ◌-◌, ◌<◌, min, List, [], length, take, drop, map, slice_get, Option, None, Some, IfSome, refl, sym, ap, ◌∙◌, subst, arith}
 use Rattle.std.proofs.lemmas.List.{length-drop, length-map, take_min}
 use Rattle.std.proofs.lemmas.Option.{get_or_from_slice_get, slice_get-get_or, slice_get_within}
 use Rattle.wf_core.specs.Limits.{read_max}
@@ -12,7 +12,7 @@ use Rattle.chunk_backend.specs.declared.chunk_answer.ChunkAnswer.{ChunkAnswer}
 use Rattle.chunk_backend.specs.declared.chunk_answer.ChunkAnswer.TheVariants.{Bytes, NoFile, Negative, Fault, NoMemory}
 use Rattle.chunk_backend.specs.Chunks.{bytes_of, chunks_between, needs, needs_of, read_end, size_of}
 use Rattle.chunk_backend.specs.CacheFold.{answer_of, read_outcome, take_chunks, whole_answer, whole_answer_from, whole_file}
-use Rattle.chunk_backend.specs.Reads.{CameTo, HasRoom, IfBytes, IsReadAt, IsSetup, Seen, Setup, rules_of, state_of}
+use Rattle.chunk_backend.specs.Reads.{CameTo, HasRoom, IfBytes, IsReadAt, IsSetup, Seen, rules_of, state_of}
 use Rattle.chunk_backend.specs.Steps.{CountsHits, ServesBetween}
 use Rattle.chunk_backend.proofs.PartLemmas.{size_is}
 

@@ -1,5 +1,5 @@
 -- A run of reads over a store in memory.
-use Rattle.std.proofs.Common.{◌≡◌, ◌≢◌, ℕ, ◌+◌, ◌/◌, ◌<◌, ◌≤◌, inl, inr, slice_get, List, [], ◌∷◌, ◌++◌, length, map, Option, None, Some, IfSome, refl, sym, ap, ◌∙◌, subst, arith, append_assoc, append-nil}
+use Rattle.std.proofs.Common.{◌≡◌, ◌≢◌, ℕ, ◌+◌, ◌/◌, ◌≤◌, inl, inr, slice_get, List, [], ◌∷◌, ◌++◌, length, map, Option, None, Some, IfSome, refl, sym, ap, ◌∙◌, subst, arith, append_assoc, append-nil}
 use Rattle.chunk_backend.specs.declared.chunk.ChunkRead.{ChunkRead}
 use Rattle.chunk_backend.specs.declared.chunk_answer.ChunkAnswer.{ChunkAnswer}
 use Rattle.chunk_backend.specs.declared.chunk_answer.ChunkAnswer.TheVariants.{NoMemory}
@@ -12,7 +12,7 @@ use Rattle.file_store.specs.FileGroups.{natural}
 use Rattle.chunk_backend.specs.Chunks.{chunk_count, chunk_id, count_needs, needs, needs_of, read_end}
 use Rattle.chunk_backend.specs.Stores.{Fetching}
 use Rattle.chunk_backend.specs.CacheFold.{CacheRules, CacheState, ChunksOutcome, ReadsOutcome, answer_after, fold_reads, read_outcome, with_read}
-use Rattle.chunk_backend.specs.Reads.{Cached, CameTo, HasRoom, IsReadAt, IsSetup, Seen, Setup, rules_of, state_of, total_needs}
+use Rattle.chunk_backend.specs.Reads.{Cached, CameTo, HasRoom, IsReadAt, IsSetup, Setup, rules_of, total_needs}
 use Rattle.chunk_backend.specs.Steps.{CountsHits}
 use Rattle.chunk_backend.specs.ChunksText.{RunsReads, read_line, read_lines, shown, state_between}
 use Rattle.chunk_backend.proofs.FoldLemmas.{answered, asked_grows, came}

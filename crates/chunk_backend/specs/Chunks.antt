@@ -1,6 +1,6 @@
 -- The chunks of files: which bytes each has, and which of them a read needs. After WasmFS's fetch backend; the definitions
 -- are this project's own.
-use Rattle.std.specs.Prelude.{ℕ, ◌+◌, ◌-◌, ◌*◌, ◌/◌, ◌<◌, ◌≤◌, min, nat_lt, if◌then◌else◌, List, [], length, map, slice_get, slice_index_or, Option, None, Some, ℤ}
+use Rattle.std.specs.Prelude.{ℕ, ◌+◌, ◌-◌, ◌*◌, ◌/◌, min, nat_lt, if◌then◌else◌, List, [], map, slice_get, slice_index_or, Option, None, Some, ℤ}
 use Rattle.std.specs.List.{range_with_len}
 use Rattle.wf_core.specs.Limits.{read_max}
 use Rattle.file_store.specs.FileBytes.{part}

@@ -1,10 +1,9 @@
 -- The input of `chunks`: what its lines say, or its first faulty line. The format is this project's own.
-use Rattle.std.specs.Prelude.{◌≡◌, ℕ, zero, suc, ◌+◌, ◌==◌, ◌<◌, ◌≤◌, Bool, nat_le, nat_lt, if◌then◌else◌, List, [], ◌∷◌, ◌++◌, length, codes, position, Option, None, Some, option_map, option_and_then, Result, Ok, Err, ℤ}
+use Rattle.std.specs.Prelude.{◌≡◌, ℕ, zero, suc, ◌+◌, ◌==◌, Bool, nat_le, nat_lt, if◌then◌else◌, List, [], ◌∷◌, ◌++◌, length, codes, position, Option, None, Some, option_map, option_and_then, Result, Ok, Err, ℤ}
 use Rattle.std.specs.List.{list_any}
 use Rattle.std.specs.Fmt.{decimal}
 use Rattle.wf_core.specs.Limits.{calls_max, line_max}
 use Rattle.wf_core.specs.Names.{is_text}
-use Rattle.trace_text.specs.declared.refusal.Fault.{Fault}
 use Rattle.trace_text.specs.declared.refusal.Fault.TheVariants.{Header, UnknownWord, BadArgument, UnknownName, DuplicateName, LineTooLong, TooManyCalls, MissingNewline}
 use Rattle.trace_text.specs.Fields.{count_in, fields_of, is_label, is_skipped, number_in, offset_in, one_of, pieces_of, text_in, three_of, two_of}
 use Rattle.trace_text.specs.Reading.{first_end}

@@ -19,6 +19,7 @@ mod chunk_files;
 mod chunk_store;
 mod chunks_text;
 mod command;
+mod fetch_numbers;
 mod input;
 mod laws;
 mod limits;

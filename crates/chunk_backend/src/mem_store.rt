@@ -2,15 +2,16 @@ ghost use Rattle.std.specs.Prelude.{◌≡◌, [], length, map, IfOk};
 
 use crate::chunk::Fetch;
 use crate::chunk_store::ChunkStore;
+use crate::fetch_numbers::FetchNumbers;
 use std::alloc::{AllocError, Global};
 use std::marker::Model;
 use wf_core::{Failed, Text};
 
 /// Files in memory as a store of chunks, which fails where it is told to or where its room ends.
-#[derive(Debug, Drop)]
+#[derive(Drop)]
 pub struct MemStore {
     files: Vec<Text>,
-    failing: Vec<u64>,
+    failing: FetchNumbers,
     room: usize,
     asked: Vec<Fetch>,
     faults: u64,
@@ -24,7 +25,7 @@ impl Model for MemStore {
 
     ghost view = { λ s. record {
       contents = s.files.items;
-      failing = s.failing.items;
+      failing = s.failing;
       room = s.room;
       asked = s.asked.items;
       faults = s.faults;
@@ -51,7 +52,7 @@ impl MemStore {
     {
         Ok(MemStore {
             files,
-            failing,
+            failing: FetchNumbers::new(failing),
             room,
             asked: Vec::with_capacity(alloc, room)?,
             faults: 0,
@@ -93,7 +94,7 @@ impl ChunkStore for MemStore {
             return Err(Failed);
         }
         self.asked.push(Fetch { file, offset }).unwrap();
-        if self.failing.contains(&(number as u64)) {
+        if self.failing.has(number as u64) {
             self.faults = self.faults.saturating_add(1);
             return Err(Failed);
         }

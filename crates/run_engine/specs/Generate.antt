@@ -1,5 +1,5 @@
 -- The call `gen`: its words, and what it promises.
-use Rattle.std.specs.Prelude.{◌≡◌, ℕ, Bool, false, if◌then◌else◌, List, [], ◌∷◌, codes, Option, None, Some, is_some, IfSome}
+use Rattle.std.specs.Prelude.{◌≡◌, ℕ, if◌then◌else◌, List, [], ◌∷◌, codes, Option, None, Some, is_some, IfSome}
 use Rattle.wf_core.specs.Names.{is_text}
 use Rattle.wf_core.specs.Runs.{IsRun, Streams, streams}
 use Rattle.wf_core.specs.declared.run_status.RunStatus.{RunStatus}
@@ -7,11 +7,6 @@ use Rattle.trace_text.specs.Fields.{number_in}
 use Rattle.run_engine.specs.Generated.{generated_trace}
 use Rattle.run_engine.specs.Solo.{usage_text}
 use Rattle.run_engine.specs.Summary.{summary_text}
-
--- the first word is that of `gen`
-abbrev pub is_gen : List (List ℕ) → Bool
-is_gen [] = false
-is_gen (word ∷ words) = is_text word (codes "gen")
 
 -- the greatest number that a trace is made of
 abbrev pub seed_max : ℕ

@@ -1,9 +1,9 @@
 -- The first place of a byte, as `memchr` tells it.
-use Rattle.std.proofs.Common.{◌≡◌, ℕ, ◌<◌, ◌≤◌, Bool, true, false, cond, ltb, List, length, get_or, position, Option, None, Some, refl, sym, ap, ap₂, ◌∙◌, arith}
+use Rattle.std.proofs.Common.{◌≡◌, ℕ, ◌<◌, Bool, true, false, cond, ltb, List, length, get_or, position, Option, None, Some, refl, sym, ap₂, ◌∙◌, arith}
 use Rattle.std.specs.List.{position_or_len}
 use Rattle.std.proofs.lemmas.List.Sums.{fails_before_first, passes_at_first}
 use borrow.Author.Tests.{ltb-true, ltb-false}
-use Rattle.memchr.specs.Find.{IsFirstByte, NoneBefore}
+use Rattle.memchr.specs.Find.{IsFirstByte}
 
 module _ (test : ℕ → Bool) (bytes : List ℕ) where
   abbrev first : ℕ

@@ -1,6 +1,7 @@
 -- What text fields stand for.
 use Rattle.std.proofs.Common.{◌≡◌, ◌≢◌, ℕ, zero, suc, ◌<◌, ◌==◌, ◌/◌, ◌%◌, ◌&&◌, Bool, true, false, if◌then◌else◌, List, [], ◌∷◌, ◌++◌, length, take, drop, get_or, position, not, codes, Option, None, Some, option_map, refl, ◌∙◌, sym, ap, subst, append_assoc, append-nil, arith}
-use Rattle.std.specs.List.{list_all, flat_map}
+use Rattle.std.proofs.Math.Bool.{and_assoc, and-true}
+use Rattle.std.specs.List.{fold, list_all, flat_map}
 use Rattle.std.proofs.lemmas.List.Quantifiers.{position-Some}
 use Rattle.trace_text.proofs.Positions.{fails_at}
 use Rattle.std.proofs.lemmas.Grind.{flat_map-append}
@@ -18,6 +19,11 @@ onto_front front byte (Some bytes) = ap Some (append_assoc front (byte ∷ []) b
 pub both : (a b : Bool) → a && b ≡ true → (a ≡ true) × (b ≡ true)
 both true b h = (refl, h)
 both false b h = (cc)
+
+-- a look at each byte, whatever the ones before were
+pub all_looked_at : (field : List ℕ) (plain : Bool) → fold (λ (a : Bool) (byte : ℕ). a && is_plain byte) plain field ≡ (plain && list_all is_plain field)
+all_looked_at [] plain = sym (and-true plain)
+all_looked_at (byte ∷ field) plain = all_looked_at field (plain && is_plain byte) ∙ and_assoc plain (is_plain byte) (list_all is_plain field)
 
 -- a plain byte stands for itself
 pub plain_first : (byte : ℕ) (rest : List ℕ) → is_plain byte ≡ true → bytes_in (byte ∷ rest) ≡ onto byte (bytes_in rest)

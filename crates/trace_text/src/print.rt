@@ -5,7 +5,7 @@ ghost use Rattle.trace_text.specs.Fields.{byte_field, hex_digit, is_plain, text_
 ghost use Rattle.trace_text.specs.Texts.{end_line, next_field, refusal_text};
 
 use crate::refusal::Refusal;
-use crate::text_field::is_plain;
+use crate::text_field::{has_plain_bytes, is_plain};
 use itoa::Buffer;
 use std::alloc::{AllocError, Global};
 
@@ -82,11 +82,15 @@ fn append_bytes(text: &mut Vec<u8>, bytes: &[u8]) -> Result<(), AllocError>
 }
 
 /// Appends a text field.
+#[tactic(auto, using(crate::proofs::TextFields::plain_fields))]
 pub(crate) fn append_text(text: &mut Vec<u8>, bytes: &[u8]) -> Result<(), AllocError>
     ensures { OnOk result (text.new.items ≡ text.old.items ++ text_field bytes.now) }
 {
     if bytes.is_empty() {
         return text.extend_from_slice(b"%_");
+    }
+    if has_plain_bytes(bytes) {
+        return text.extend_from_slice(bytes);
     }
     append_bytes(text, bytes)
 }

@@ -22,11 +22,13 @@ pub(crate) fn is_plain(byte: u8) -> bool
     (33..=126).contains(&byte) && byte != b'%'
 }
 
-/// Whether each byte stands for itself.
+/// Whether each byte stands for itself. It looks at them all, since a loop that does not stop takes many at once.
 pub(crate) fn has_plain_bytes(field: &[u8]) -> bool
     ensures { result ≡ list_all is_plain field.now }
 {
-    field.iter().all(|byte| is_plain(*byte))
+    field
+        .iter()
+        .fold(true, |plain, byte| plain & is_plain(*byte))
 }
 
 /// The value of a hexadecimal digit of either case.

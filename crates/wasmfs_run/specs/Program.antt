@@ -3,7 +3,7 @@ use Rattle.std.specs.Prelude.{◌≡◌, ℕ, Bool, false, if◌then◌else◌, 
 use Rattle.wf_core.specs.Names.{is_text}
 use Rattle.wf_core.specs.Runs.{Streams}
 use Rattle.wf_core.specs.declared.run_status.RunStatus.{RunStatus}
-use Rattle.run_engine.specs.Generate.{IsGenerateRun, is_gen, without_source}
+use Rattle.run_engine.specs.Generate.{IsGenerateRun, without_source}
 use Rattle.run_engine.specs.Solo.{IsSoloRun}
 use Rattle.chunk_backend.specs.Command.{IsChunksRun}
 use Rattle.wasmfs_run.specs.declared.command.TopCall.{TopCall}
@@ -17,7 +17,7 @@ has_first text (word ∷ words) = is_text word text
 -- the call that the first word picks: `solo` where it is that of no other
 abbrev pub picked : List (List ℕ) → TopCall
 picked words =
-    if is_gen words then Generate
+    if has_first (codes "gen") words then Generate
     else if has_first (codes "chunks") words then Chunks
     else Solo
 

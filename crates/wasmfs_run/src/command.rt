@@ -1,7 +1,6 @@
 ghost use Rattle.std.specs.Prelude.{◌≡◌, map};
 ghost use Rattle.std.specs.String.{string_bytes};
 ghost use Rattle.wf_core.specs.Runs.{streams};
-ghost use Rattle.run_engine.specs.Generate.{is_gen};
 ghost use Rattle.wasmfs_run.specs.Program.{IsProgramRun, has_first, picked};
 
 use chunk_backend::chunks;
@@ -41,22 +40,13 @@ pub fn run<S: Source, K: Sink, G: Gate>(
 fn picked(words: &[String]) -> TopCall
     ensures { result ≡ picked (map string_bytes words.now) }
 {
-    if is_gen(words) {
+    if has_first(b"gen", words) {
         return TopCall::Generate;
     }
     if has_first(b"chunks", words) {
         return TopCall::Chunks;
     }
     TopCall::Solo
-}
-
-fn is_gen(words: &[String]) -> bool
-    ensures { result ≡ is_gen (map string_bytes words.now) }
-{
-    match words {
-        [word, ..] => word.as_bytes() == b"gen".as_slice(),
-        [] => false,
-    }
 }
 
 fn has_first(text: &[u8], words: &[String]) -> bool

@@ -1,4 +1,4 @@
-use Rattle.std.proofs.Common.{◌≡◌, Some, length, slice_get, refl, ap, ◌∙◌, sym, rules}
+use Rattle.std.proofs.Common.{◌≡◌, Some, length, slice_get, refl, ◌∙◌, sym, rules}
 use Rattle.std.proofs.lemmas.Option.{slice_get_read}
 use Rattle.file_store.specs.FileGroups.{natural}
 use Rattle.chunk_backend.specs.Chunks.{count_needs}

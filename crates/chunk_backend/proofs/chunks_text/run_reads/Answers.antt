@@ -1,4 +1,4 @@
-use Rattle.std.proofs.Common.{◌≡◌, ◌≢◌, ◌+◌, ◌<◌, ◌^◌, ℕ, List, ◌∷◌, drop, slice_index_or, true, false, refl, subst, ap, ◌∙◌, sym, arith, rules}
+use Rattle.std.proofs.Common.{◌≢◌, ◌+◌, ◌<◌, ◌^◌, List, ◌∷◌, drop, slice_index_or, refl, subst, ap, arith, rules}
 use Rattle.std.specs.Prelude.{pos}
 use Rattle.std.proofs.lemmas.List.{drop_all, drop_more}
 use Rattle.chunk_backend.specs.Chunks.{chunk_read}

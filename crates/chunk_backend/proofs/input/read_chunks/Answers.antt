@@ -1,4 +1,4 @@
-use Rattle.std.proofs.Common.{◌≡◌, ℕ, List, Result, sym, subst, ap, ◌∙◌}
+use Rattle.std.proofs.Common.{sym, subst, ap, ◌∙◌}
 use Rattle.trace_text.specs.declared.refusal.Fault.TheVariants.{Header, LineTooLong}
 use Rattle.trace_text.specs.Fields.{pieces_of}
 use Rattle.chunk_backend.specs.declared.chunk_fault.ChunkFault.TheVariants.{Line}

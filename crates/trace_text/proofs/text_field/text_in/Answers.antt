@@ -1,4 +1,4 @@
-use Rattle.std.proofs.Common.{◌≡◌, Some, sym, ap, ◌∙◌}
+use Rattle.std.proofs.Common.{Some, sym, ap, ◌∙◌}
 use Rattle.trace_text.proofs.TextFields.{plain_text, some_bytes_in}
 use Rattle.trace_text.proofs.text_field.text_in.Goals as goal
 

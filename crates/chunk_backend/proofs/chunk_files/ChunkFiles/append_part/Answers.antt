@@ -1,4 +1,4 @@
-use Rattle.std.proofs.Common.{◌≡◌, ◌≤◌, OnOk, refl, subst, sym}
+use Rattle.std.proofs.Common.{◌≤◌, OnOk, refl, subst, sym}
 use Rattle.chunk_backend.specs.Chunks.{chunk_size}
 use Rattle.chunk_backend.specs.Reads.{Cached, IsSetup, Seen, seen}
 use Rattle.chunk_backend.specs.Steps.{AppendsPart, IsWithin, Takes, cache_and_bytes}

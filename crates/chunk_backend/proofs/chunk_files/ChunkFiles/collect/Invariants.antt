@@ -1,4 +1,4 @@
-use Rattle.std.proofs.Common.{◌≡◌, ◌-◌, ℕ}
+use Rattle.std.proofs.Common.{◌≡◌, ◌-◌}
 use Rattle.chunk_backend.specs.Reads.{Cached, Seen, seen}
 use Rattle.chunk_backend.proofs.Collecting.{Collecting}
 use Rattle.chunk_backend.proofs.chunk_files.ChunkFiles.collect.Given as goal

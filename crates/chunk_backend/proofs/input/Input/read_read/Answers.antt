@@ -1,5 +1,4 @@
-use Rattle.std.proofs.Common.{◌≡◌, List, ℕ, Option, IfOk, position, ap, rules, ◌∙◌, subst, w64}
-use Rattle.std.proofs.lemmas.Int.{to_z-of_z}
+use Rattle.std.proofs.Common.{◌≡◌, List, ℕ, IfOk, position, ap, rules, ◌∙◌, subst}
 use Rattle.wf_core.specs.Names.{is_text}
 use Rattle.chunk_backend.specs.Inputs.{Adds, Input, after_read, after_read_of}
 use Rattle.chunk_backend.proofs.input.Input.read_read.Goals as goal
