@@ -1,7 +1,5 @@
 pub mod NumberLemmas
-pub mod SlotLemmas
 pub mod StoreLemmas
-pub mod AnswerLemmas
 pub mod OpeningLemmas
 pub mod MountLemmas
 pub mod DrawLemmas

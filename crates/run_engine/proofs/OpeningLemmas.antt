@@ -1,41 +1,12 @@
 -- The store before the first call.
 use Rattle.std.proofs.Common.{◌≡◌, ℕ, ◌+◌, ◌<◌, ◌≤◌, zero, suc, inl, inr, List, [], ◌∷◌, ◌++◌, length, map, fold, take, Option, Some, slice_get, get_or, refl, sym, ap, subst, ◌∙◌, arith}
-use Rattle.name_store.specs.declared.operation.Node.{Node}
-use Rattle.name_store.specs.declared.operation.Node.TheVariants.{Mount}
-use Rattle.name_store.specs.NameTrees.{Listing, entry_at, empty_in, with_entry, with_mount, opening}
-use Rattle.name_store.proofs.Entries.{same_name, apart_names, entered_here, entered_other}
 use Rattle.name_store.proofs.Soundness.{opening_sound}
 use Rattle.path_walk.specs.Store.{Backend, opening_backend}
 use Rattle.trace_text.specs.declared.trace.BackendLine.{BackendLine}
 use Rattle.trace_text.specs.SoloText.{mounts_from, opening_store}
-use Rattle.run_engine.proofs.SlotLemmas.{opening_among as opening_slots_among}
-use Rattle.run_engine.specs.RunStores.{IsBackend, IsRunStore, MountsAmong}
-
--- each mount is of one of so many backends
-abbrev AreBelow : ℕ → List (List ℕ × ℕ) → Type 0
-AreBelow backends [] = Unit {0}
-AreBelow backends (mount ∷ mounts) = (mount.1 < backends) × AreBelow backends mounts
-
-abbrev EntriesAmong : ℕ → Listing → Type 0
-EntriesAmong backends directory = (name : List ℕ) (backend : ℕ) → entry_at directory name ≡ Some (Mount backend) → backend < backends
-
-mount_is : (first second : ℕ) → ◌≡◌ {A = Option Node} (Some (Mount first)) (Some (Mount second)) → first ≡ second
-mount_is first second e = cc
-
-one_more : (backends : ℕ) (directory : Listing) (name : List ℕ) (number : ℕ) → EntriesAmong backends directory → number < backends → EntriesAmong backends (with_entry directory name (Mount number))
-one_more backends directory name number among below other backend here =
-    elim (same_name other name) [
-      | inl e ↦ subst (λ (n : ℕ). n < backends) (mount_is number backend (sym (entered_here directory.entries name (Mount number)) ∙ ap (λ (n : List ℕ). entry_at (with_entry directory name (Mount number)) n) (sym e) ∙ here)) below
-      | inr apart ↦ among other backend (sym (entered_other directory.entries name other (Mount number) (apart_names other name apart)) ∙ here)
-    ]
-
-mounted : (backends : ℕ) (root : Listing) (mounts : List (List ℕ × ℕ)) → EntriesAmong backends root → AreBelow backends mounts → EntriesAmong backends (fold with_mount root mounts)
-mounted backends root [] among below = among
-mounted backends root ((name, number) ∷ mounts) among below = mounted backends (with_mount root (name, number)) mounts (one_more backends root name number among below.0) below.1
-
-opening_among : (backends : ℕ) (mounts : List (List ℕ × ℕ)) → AreBelow backends mounts → MountsAmong backends (opening mounts)
-opening_among backends mounts below zero name backend here = mounted backends (empty_in 0) mounts (λ n b e. cc) below name backend here
-opening_among backends mounts below (suc id) name backend here = cc
+use Rattle.memory_backend.proofs.MountedNames.{AreBelow, opening_among}
+use Rattle.memory_backend.proofs.SlotsAmong.{opening_among as opening_slots_among}
+use Rattle.run_engine.specs.RunStores.{IsBackend, IsRunStore}
 
 opening_fits : (backends : ℕ) (mounts : List (List ℕ × ℕ)) → AreBelow backends mounts → IsBackend backends (opening_backend mounts)
 opening_fits backends mounts below = record {

@@ -5,8 +5,7 @@ use Rattle.std.specs.declared.alloc.AllocError.{AllocError}
 use Rattle.name_store.specs.declared.operation.NameOp.{NameOp}
 use Rattle.name_store.specs.declared.operation.NameAnswer.{NameAnswer}
 use Rattle.name_store.specs.NameTrees.{Tree, nstep}
-use Rattle.name_store.specs.Sound.{IsSound, node_at}
-use Rattle.name_store.proofs.EntryLemmas.{mounts_after}
+use Rattle.name_store.specs.Sound.{IsSound}
 use Rattle.file_store.specs.declared.file_operation.FileOp.{FileOp}
 use Rattle.file_store.specs.declared.file_operation.FileAnswer.{FileAnswer}
 use Rattle.file_store.specs.FileGroups.{Group, fstep, opening as group_opening}
@@ -16,8 +15,10 @@ use Rattle.file_store.specs.DescriptorMap.{Map, DescriptorsOutcome, dstep}
 use Rattle.path_walk.specs.declared.step.StoreAnswer.TheVariants.{Names as NamesAnswer, Files as FilesAnswer, Descriptors as DescriptorsAnswer}
 use Rattle.path_walk.specs.Store.{Backend, Store, Stepped, backend_at, with_backend}
 use Rattle.path_walk.specs.Backing.{IsFdOpAmong, DescriptorsAmong}
-use Rattle.run_engine.specs.RunStores.{IsBackend, IsRunStore, MountsAmong, SlotsAmong, IsNamesStep, IsFilesStep, IsDescriptorsStep, backends_of}
-use Rattle.run_engine.proofs.SlotLemmas.{Keeps, step_keeps}
+use Rattle.run_engine.specs.RunStores.{IsBackend, IsRunStore, IsNamesStep, IsFilesStep, IsDescriptorsStep, backends_of}
+use Rattle.memory_backend.specs.Among.{SlotsAmong}
+use Rattle.memory_backend.proofs.MountedNames.{mounts_kept}
+use Rattle.memory_backend.proofs.SlotsAmong.{Keeps, step_keeps}
 
 -- a backend that is there
 at_there : (store : Store) (number : ℕ) (backend : Backend) → slice_get store.backends number ≡ Some backend → backend_at store number ≡ backend
@@ -62,12 +63,6 @@ with_changed store number new is fits = record {
 -- the store in which the descriptors were changed
 pub with_slots : (store : Store) (new : Map) → IsRunStore store → SlotsAmong (length store.backends) new → IsRunStore (record store { descriptors = new })
 with_slots store new is among = record { root = is.root; each = is.each; slots = among }
-
--- a step on names changes no mount
-mounts_kept : (backends : ℕ) (old new : Tree) (op : NameOp) (r : Result NameAnswer AllocError) → IsSound old → MountsAmong backends old → IfOk r (λ answer. nstep old op ≡ record { tree = new; answer = answer }) → OnErr r (new ≡ old) → MountsAmong backends new
-mounts_kept backends old new op (Ok answer) sound among told left = λ id name backend here.
-    among id name backend ((mounts_after old (op ∷ []) sound id name backend).0 (ap (λ (o : _). node_at o.tree id name) told ∙ here))
-mounts_kept backends old new op (Err error) sound among told left = subst (MountsAmong backends) (sym left) among
 
 pub names_fit : (backends : ℕ) (old : Backend) (new : Tree) (op : NameOp) (r : Result NameAnswer AllocError) → IsBackend backends old → IfOk r (λ answer. nstep old.names op ≡ record { tree = new; answer = answer }) → OnErr r (new ≡ old.names) → IsSound new → IsBackend backends (record { names = new; groups = old.groups })
 names_fit backends old new op r is told left sound = record {

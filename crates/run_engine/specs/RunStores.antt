@@ -3,44 +3,27 @@ use Rattle.std.specs.Prelude.{◌≡◌, ℕ, ◌<◌, max, true, List, length, 
 use Rattle.std.specs.List.{list_all}
 use Rattle.wf_core.specs.Limits.{backends_max, group_count}
 use Rattle.wf_core.specs.Names.{is_name}
-use Rattle.name_store.specs.declared.operation.Node.TheVariants.{Mount}
 use Rattle.name_store.specs.declared.operation.NameOp.{NameOp}
 use Rattle.name_store.specs.declared.operation.NameAnswer.{NameAnswer}
-use Rattle.name_store.specs.NameTrees.{Tree}
-use Rattle.name_store.specs.Sound.{IsSound, node_at}
+use Rattle.name_store.specs.Sound.{IsSound}
 use Rattle.file_store.specs.declared.file_operation.FileOp.{FileOp}
 use Rattle.file_store.specs.declared.file_operation.FileAnswer.{FileAnswer}
-use Rattle.file_store.specs.declared.descriptor_operation.Slot.{Slot}
-use Rattle.file_store.specs.declared.descriptor_operation.Slot.TheVariants as slot
 use Rattle.file_store.specs.declared.descriptor_operation.FdOp.{FdOp}
 use Rattle.file_store.specs.declared.descriptor_operation.FdAnswer.{FdAnswer}
-use Rattle.file_store.specs.DescriptorMap.{Map, slot_at}
 use Rattle.path_walk.specs.declared.step.StoreAnswer.TheVariants.{Names as NamesAnswer, Files as FilesAnswer, Descriptors as DescriptorsAnswer}
 use Rattle.path_walk.specs.Store.{Backend, Store, names_step, files_step, descriptors_step}
+use Rattle.memory_backend.specs.Among.{MountsAmong, SlotsAmong}
 use Rattle.trace_text.specs.declared.trace.BackendLine.{BackendLine}
 
 -- how many backends there are: the root's is always there
 abbrev pub backends_of : Store → ℕ
 backends_of store = max 1 (length store.backends)
 
--- each mount in the names is of one of so many backends
-abbrev pub MountsAmong : ℕ → Tree → Type 0
-MountsAmong backends tree = (id : ℕ) (name : List ℕ) (backend : ℕ) → node_at tree id name ≡ Some (Mount backend) → backend < backends
-
 -- a backend has all its groups of files, and its names, which are sound, mount no other than so many
 pub record IsBackend (backends : ℕ) (backend : Backend) : Type 0 where
   pub groups : length backend.groups ≡ group_count
   pub sound : IsSound backend.names
   pub mounts : MountsAmong backends backend.names
-
--- what a number names is of one of so many backends
-abbrev pub IsSlotAmong : ℕ → Slot → Type 0
-IsSlotAmong backends (slot.File backend description) = backend < backends
-IsSlotAmong backends (slot.Dir backend directory) = backend < backends
-IsSlotAmong backends other = Unit {0}
-
-abbrev pub SlotsAmong : ℕ → Map → Type 0
-SlotsAmong backends map = (number : ℕ) → IsSlotAmong backends (slot_at map number)
 
 pub record IsRunStore (store : Store) : Type 0 where
   -- the root's backend is there

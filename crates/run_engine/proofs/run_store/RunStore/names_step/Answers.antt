@@ -2,7 +2,7 @@ use Rattle.std.proofs.Common.{◌<◌, ℕ, length, ap, sym, subst, ◌∙◌}
 use Rattle.path_walk.specs.Store.{Backend, Store}
 use Rattle.run_engine.specs.RunStores.{backends_of}
 use Rattle.run_engine.proofs.StoreLemmas.{all_backends, read_at, with_changed, names_fit, names_told}
-use Rattle.run_engine.proofs.AnswerLemmas.{told_among}
+use Rattle.memory_backend.proofs.NodesAmong.{told_among}
 use Rattle.run_engine.proofs.run_store.RunStore.names_step.Goals as goal
 
 pub invariant_of-self : goal.invariant_of-self

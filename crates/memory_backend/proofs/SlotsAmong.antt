@@ -9,7 +9,7 @@ use Rattle.file_store.specs.declared.descriptor_operation.FdOp.TheVariants as op
 use Rattle.file_store.specs.declared.descriptor_operation.FdAnswer.TheVariants as answer
 use Rattle.file_store.specs.DescriptorMap.{Map, DescriptorsOutcome, dstep, opening, slot_at, is_named, is_reserved, is_description_open, lowest_free, outcome_of, place_outcome, fill_outcome, look_answer, copyto_outcome_over, take_outcome}
 use Rattle.path_walk.specs.Backing.{IsFdOpAmong, DescriptorsAmong}
-use Rattle.run_engine.specs.RunStores.{IsSlotAmong, SlotsAmong}
+use Rattle.memory_backend.specs.Among.{IsSlotAmong, SlotsAmong}
 
 module _ (backends : ℕ) where
   free_slots : (count number : ℕ) → IsSlotAmong backends (slot_at (replicate count slot.Free) number)

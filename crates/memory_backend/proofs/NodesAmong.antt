@@ -11,7 +11,7 @@ use Rattle.name_store.specs.Forms.{IsForm}
 use Rattle.name_store.specs.NameTrees.{Tree, Listing, NamesOutcome, dir_at, entry_at, nstep, unless_gone, look_answer_at, addfile_outcome_at}
 use Rattle.name_store.specs.Sound.{node_at, node_in}
 use Rattle.path_walk.specs.Backing.{IsNodeAmong, NamesAmong}
-use Rattle.run_engine.specs.RunStores.{MountsAmong}
+use Rattle.memory_backend.specs.Among.{MountsAmong}
 
 module _ (backends : ℕ) (tree : Tree) (among : MountsAmong backends tree) where
   node_among : (id : ℕ) (name : List ℕ) (node : Node) → node_at tree id name ≡ Some node → IsNodeAmong backends node

@@ -1,0 +1,10 @@
+pub mod NodesAmong
+pub mod SlotsAmong
+pub mod MountedNames
+pub mod CellMoves
+pub mod Numbering
+pub mod StoreMoves
+pub mod OpeningCells
+pub mod OpeningRows
+pub mod Mounting
+pub mod Entering
