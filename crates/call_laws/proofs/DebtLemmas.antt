@@ -1,4 +1,7 @@
 -- A call that has ended owes nothing.
+use Rattle.path_walk.specs.declared.call.Base.{Base}
+use Rattle.path_walk.specs.declared.call.Base.TheVariants.{Cwd, Fd}
+use Rattle.path_walk.specs.declared.act.PathAt.{PathAt}
 use Rattle.std.proofs.Common.{arith, ◌≡◌, ℕ, ◌==◌, ◌&&◌, not, zero, suc, Bool, true, false, cond, if◌then◌else◌, List, [], ◌∷◌, Option, None, Some, Result, Ok, Err, refl, sym, ap, subst, ◌∙◌}
 use Rattle.std.proofs.lemmas.Bool.Decides.{nat_tests}
 use Rattle.wf_core.specs.declared.errno.Errno.{Errno}
@@ -34,12 +37,12 @@ use Rattle.path_walk.specs.declared.step.StepAnswer.{StepAnswer}
 use Rattle.path_walk.specs.declared.step.StepAnswer.TheVariants.{Answered, Cancelled, Closed}
 use Rattle.path_walk.specs.declared.call.Reply.{Reply}
 use Rattle.path_walk.specs.declared.call.Reply.TheVariants as reply
-use Rattle.path_walk.specs.PathMeaning.{Way, Course, ends, goes, path_start, root_of, spot_beside, start_of, station}
+use Rattle.path_walk.specs.PathMeaning.{Way, Course, ends, goes, root_of, spot_beside, start_of, station, start_in}
 use Rattle.path_walk.specs.Programs.{Program, finished, asks, Step, Takes}
 use Rattle.path_walk.specs.Walk.{course_on, node_in, program_on, walk}
-use Rattle.path_walk.specs.Plans.{Plan, replies, steps, walks, cell_of_id, fails, fault_in, program_of, reply_to, unless_fault}
-use Rattle.path_walk.specs.DescriptorCalls.{number_plan, op_of_data, releases, data_step_plan}
-use Rattle.path_walk.specs.OpenPlan.{absent_fault, added_plan, attached_by, attached_plan, description_in, directory_fault, drops, file_fault, file_in, fills, flags_fault, follows, found_plan, link_fault, looked_plan, looks, made_by, made_plan, makes, meant_plan, open_end, open_route, open_walks_max, opens_along, opens_by, opens_directory, opens_file, request_of, reserved_plan, route_to, unless_drops, unlinked_plan, unmakes}
+use Rattle.path_walk.specs.Plans.{Plan, replies, steps, walks, cell_of_id, fails, fault_in, program_of, reply_to, unless_fault, from_base, spot_in, walks_in}
+use Rattle.path_walk.specs.DescriptorCalls.{number_plan, op_of_data, releases, data_step_plan, enters}
+use Rattle.path_walk.specs.OpenPlan.{absent_fault, added_plan, attached_by, attached_plan, description_in, directory_fault, drops, file_fault, file_in, fills, flags_fault, follows, found_plan, link_fault, looked_plan, looks, made_by, made_plan, makes, meant_plan, open_end, open_route, open_walks_max, opens_along, opens_by, opens_directory, opens_file, request_of, reserved_plan, route_to, unless_drops, unlinked_plan, unmakes, opens_in}
 use Rattle.path_walk.specs.Calls.{last_step, plan_after, unlinked_by}
 use Rattle.path_walk.specs.Posix.{program}
 use Rattle.path_walk.proofs.Plans.{Holds, any_end, each_call}
@@ -304,26 +307,39 @@ unfolding opens_along
 opens_along_pay zero request from route = drops_pay request.number Eloop
 opens_along_pay (suc walks_left) request from route = along_pays (holds request.number) from route.route (open_end (opens_along walks_left) request route.name) (λ end. end_pays (opens_along walks_left) (opens_along_pay walks_left) request route.name end)
 
-by_pays : (number : ℕ) (flags : OpenFlags) (route : Result OpenRoute Errno) → Paid (holds number) (opens_by number flags route)
-by_pays number flags (Err error) = drops_pay number error
-by_pays number flags (Ok route) = opens_along_pay open_walks_max (request_of number flags route.route.slash) path_start route
+from_pays : (debt : Debt) (origin : Option Base) (next : Result Spot Errno → Plan) → ((start : Result Spot Errno) → Paid debt (next start)) → Paid debt (from_base origin next)
+from_pays debt None next each = each (Ok (root_of 0))
+from_pays debt (Some Cwd) next each = step_pays debt DescriptorsCell (DescriptorsOp fd.Cwd) _ (λ told h. each (spot_in told))
+from_pays debt (Some (Fd number)) next each = step_pays debt DescriptorsCell (DescriptorsOp (fd.Look number)) _ (λ told h. each (spot_in told))
 
-reserved_pays : (flags : OpenFlags) (route : Result OpenRoute Errno) (told : StepAnswer) → Paid (with_number no_debt (number_in told)) (reserved_plan flags route told)
-reserved_pays flags route (Answered (NamesAnswer given)) = reply_paid _
-reserved_pays flags route (Answered (FilesAnswer given)) = reply_paid _
-reserved_pays flags route (Answered (DescriptorsAnswer (fd_answer.Fd given))) = by_pays given flags route
-reserved_pays flags route (Answered (DescriptorsAnswer (fd_answer.File home named))) = reply_paid _
-reserved_pays flags route (Answered (DescriptorsAnswer (fd_answer.Dir home named))) = reply_paid _
-reserved_pays flags route (Answered (DescriptorsAnswer fd_answer.Done)) = reply_paid _
-reserved_pays flags route (Answered (DescriptorsAnswer (fd_answer.Last home named))) = reply_paid _
-reserved_pays flags route (Answered (DescriptorsAnswer (fd_answer.FdLast given home named))) = reply_paid _
-reserved_pays flags route (Answered (DescriptorsAnswer (fd_answer.Fault error))) = reply_paid _
-reserved_pays flags route Cancelled = reply_paid _
-reserved_pays flags route Closed = reply_paid _
+walks_in_pay : (debt : Debt) (route : Route) (next : Result End Errno → Plan) → ((end : Result End Errno) → Paid debt (next end)) → (start : Result Spot Errno) → Paid debt (walks_in route next start)
+walks_in_pay debt route next each (Ok spot) = along_pays debt (start_in spot) route next each
+walks_in_pay debt route next each (Err error) = each (Err error)
 
-opens_pay : (path : List ℕ) (flags : OpenFlags) (fault : Option Errno) → Paid no_debt (unless_fault fault (steps DescriptorsCell (DescriptorsOp fd.Reserve) (reserved_plan flags (open_route path))))
-opens_pay path flags (Some error) = reply_paid _
-opens_pay path flags None = step_pays no_debt DescriptorsCell (DescriptorsOp fd.Reserve) (reserved_plan flags (open_route path)) (λ told h. reserved_pays flags (open_route path) told)
+in_pays : (request : OpenRequest) (route : OpenRoute) (start : Result Spot Errno) → Paid (holds request.number) (opens_in request route start)
+in_pays request route (Ok spot) = opens_along_pay open_walks_max request (start_in spot) route
+in_pays request route (Err error) = drops_pay request.number error
+
+by_pays : (number : ℕ) (flags : OpenFlags) (origin : Option Base) (route : Result OpenRoute Errno) → Paid (holds number) (opens_by number flags origin route)
+by_pays number flags origin (Err error) = drops_pay number error
+by_pays number flags origin (Ok route) = from_pays (holds number) origin (opens_in (request_of number flags route.route.slash) route) (in_pays (request_of number flags route.route.slash) route)
+
+reserved_pays : (flags : OpenFlags) (origin : Option Base) (route : Result OpenRoute Errno) (told : StepAnswer) → Paid (with_number no_debt (number_in told)) (reserved_plan flags origin route told)
+reserved_pays flags origin route (Answered (NamesAnswer given)) = reply_paid _
+reserved_pays flags origin route (Answered (FilesAnswer given)) = reply_paid _
+reserved_pays flags origin route (Answered (DescriptorsAnswer (fd_answer.Fd given))) = by_pays given flags origin route
+reserved_pays flags origin route (Answered (DescriptorsAnswer (fd_answer.File home named))) = reply_paid _
+reserved_pays flags origin route (Answered (DescriptorsAnswer (fd_answer.Dir home named))) = reply_paid _
+reserved_pays flags origin route (Answered (DescriptorsAnswer fd_answer.Done)) = reply_paid _
+reserved_pays flags origin route (Answered (DescriptorsAnswer (fd_answer.Last home named))) = reply_paid _
+reserved_pays flags origin route (Answered (DescriptorsAnswer (fd_answer.FdLast given home named))) = reply_paid _
+reserved_pays flags origin route (Answered (DescriptorsAnswer (fd_answer.Fault error))) = reply_paid _
+reserved_pays flags origin route Cancelled = reply_paid _
+reserved_pays flags origin route Closed = reply_paid _
+
+opens_pay : (at : PathAt) (flags : OpenFlags) (fault : Option Errno) → Paid no_debt (unless_fault fault (steps DescriptorsCell (DescriptorsOp fd.Reserve) (reserved_plan flags at.base (open_route at.path))))
+opens_pay at flags (Some error) = reply_paid _
+opens_pay at flags None = step_pays no_debt DescriptorsCell (DescriptorsOp fd.Reserve) (reserved_plan flags at.base (open_route at.path)) (λ told h. reserved_pays flags at.base (open_route at.path) told)
 
 -- Numbers.
 
@@ -433,6 +449,10 @@ module _ (backend : ℕ) where
   last_pays (name_op.Move from name to new_name slash) = step_pays no_debt (NamesCell backend) (NamesOp (name_op.Move from name to new_name slash)) next_of (λ told h. lost_pays told (unlinked_by told))
   last_pays (name_op.List id start) = step_pays no_debt (NamesCell backend) (NamesOp (name_op.List id start)) next_of (λ told h. kept_pays told (unlinked_by told))
 
+enters_pay : (start : Result Spot Errno) → Paid no_debt (enters start)
+enters_pay (Ok there) = step_pays no_debt DescriptorsCell (DescriptorsOp (fd.Setcwd there.backend there.directory)) _ (λ told h. reply_paid _)
+enters_pay (Err error) = reply_paid _
+
 -- Calls.
 
 abbrev IsPaid : ℕ → Plan → Type 0
@@ -447,8 +467,10 @@ paid_holds = record {
   takes_numbers = λ number. step_pays no_debt DescriptorsCell (DescriptorsOp (fd.Take number)) number_plan (λ told h. numbers_pay told);
   copies_numbers = λ number. step_pays no_debt DescriptorsCell (DescriptorsOp (fd.Copy number)) number_plan (λ told h. copies_pay told);
   copies_onto = λ number target. step_pays no_debt DescriptorsCell (DescriptorsOp (fd.Copyto number target)) number_plan (λ told h. numbers_pay told);
-  opens_paths = λ path flags. opens_pay path flags (flags_fault flags);
-  along = λ count route next each. along_pays no_debt path_start route next (λ end. each end (any_end end));
+  opens_paths = λ at flags. opens_pay at flags (flags_fault flags);
+  along = λ count origin route next each. from_pays no_debt origin (walks_in route next) (walks_in_pay no_debt route next (λ end. each end (any_end end)));
+  sets = λ count there so. enters_pay (Ok there);
+  enters_numbers = λ number. from_pays no_debt (Some (Fd number)) enters enters_pay;
 }
 
 pays_along : (p : Program) (debt : Debt) (taken : List Step) (given : Reply) → Pays debt p → Takes p taken given → AreOrdinary taken → debt_along debt taken ≡ no_debt
@@ -459,4 +481,4 @@ pays_along (asks cell op next) debt (step ∷ taken) given pays (told, is, rest)
     subst (λ (s : Step). IsOrdinaryOutcome s.op s.outcome → debt_along (debt_by debt s.cell s.op s.outcome) taken ≡ no_debt) (sym is) (λ h. pays_along (next told) (debt_after debt cell op told) taken given (pays told h) rest more) one
 
 pub debts_are_paid : DebtsArePaid
-debts_are_paid c taken given takes ordinary = pays_along (program c) no_debt taken given (each_call IsPaid (λ backend. Unit {0}) paid_holds c).pays takes ordinary
+debts_are_paid version c taken given takes ordinary = pays_along (program version c) no_debt taken given (each_call IsPaid (λ backend. Unit {0}) paid_holds version c).pays takes ordinary

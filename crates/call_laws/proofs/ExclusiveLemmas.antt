@@ -1,4 +1,8 @@
 -- A call with `creat` and `excl` that replies a number has made its file.
+use Rattle.path_walk.specs.Calls.{path_at}
+use Rattle.path_walk.specs.declared.call.Base.{Base}
+use Rattle.path_walk.specs.declared.call.Base.TheVariants.{Cwd}
+use Rattle.path_walk.specs.declared.act.PathAt.{PathAt}
 use Rattle.std.proofs.Common.{◌≡◌, ◌⊎◌, inl, inr, ℕ, ◌==◌, ◌||◌, not, zero, suc, Bool, true, false, if◌then◌else◌, List, [], ◌∷◌, Option, None, Some, Result, Ok, Err, refl, sym, ap, subst}
 use Rattle.wf_core.specs.declared.errno.Errno.{Errno}
 use Rattle.wf_core.specs.declared.errno.Errno.TheVariants.{Enoent, Eexist, Eisdir, Eloop, Enotdir, Enametoolong}
@@ -28,17 +32,15 @@ use Rattle.path_walk.specs.declared.step.StoreOp.TheVariants.{Names as NamesOp, 
 use Rattle.path_walk.specs.declared.step.StoreAnswer.TheVariants.{Names as NamesAnswer, Files as FilesAnswer, Descriptors as DescriptorsAnswer}
 use Rattle.path_walk.specs.declared.step.StepAnswer.{StepAnswer}
 use Rattle.path_walk.specs.declared.step.StepAnswer.TheVariants.{Answered, Cancelled, Closed}
-use Rattle.path_walk.specs.declared.call.Call.TheVariants.{Open}
 use Rattle.path_walk.specs.declared.call.Reply.{Reply}
 use Rattle.path_walk.specs.declared.call.Reply.TheVariants as reply
-use Rattle.path_walk.specs.PathMeaning.{Way, Course, ends, goes, path_start, root_of, spot_beside, start_of, station}
+use Rattle.path_walk.specs.PathMeaning.{Way, Course, ends, goes, root_of, spot_beside, start_of, station, start_in}
 use Rattle.path_walk.specs.Programs.{Program, finished, asks, Step, Takes}
 use Rattle.path_walk.specs.Walk.{course_on, node_in, program_on, walk}
-use Rattle.path_walk.specs.Plans.{Plan, replies, steps, walks, cell_of_id, fails, fault_in, program_of, unless_fault}
-use Rattle.path_walk.specs.OpenPlan.{absent_fault, added_plan, directory_fault, drops, file_fault, file_in, flags_fault, follows, found_plan, is_exclusive, link_fault, looked_plan, looks, made_by, made_plan, makes, meant_plan, open_end, open_route, open_walks_max, opens_along, reads_only, opens_by, opens_directory, opens_file, request_of, reserved_plan, route_to, unless_drops, unlinked_plan, unmakes}
-use Rattle.path_walk.specs.Posix.{program}
+use Rattle.path_walk.specs.Plans.{Plan, replies, steps, walks, cell_of_id, fails, fault_in, program_of, unless_fault, from_base, op_of_base, spot_in}
+use Rattle.path_walk.specs.OpenPlan.{absent_fault, added_plan, directory_fault, drops, file_fault, file_in, flags_fault, follows, found_plan, is_exclusive, link_fault, looked_plan, looks, made_by, made_plan, makes, meant_plan, open_end, open_route, open_walks_max, opens_along, reads_only, opens_by, opens_directory, opens_file, request_of, reserved_plan, route_to, unless_drops, unlinked_plan, unmakes, opens, opens_in}
 use Rattle.call_laws.specs.DebtLaws.{is_entered}
-use Rattle.call_laws.specs.ExclusiveLaws.{Enters, EntersBy, ExclusivesMake}
+use Rattle.call_laws.specs.ExclusiveLaws.{Enters, EntersBy, ExclusivesMake, MakesItself}
 
 -- whatever it is told, the program enters a file before it replies a number
 abbrev First : Program → Type 0
@@ -165,51 +167,59 @@ unfolding opens_along
 along_first zero request exclusive from route = drops_first request.number Eloop
 along_first (suc walks_left) request exclusive from route = walks_first from route.route (open_end (opens_along walks_left) request route.name) (λ end. end_first (opens_along walks_left) (along_first walks_left) request exclusive route.name end)
 
-by_first : (number : ℕ) (flags : OpenFlags) → is_exclusive flags ≡ true → (route : Result OpenRoute Errno) → EntersFirst (opens_by number flags route)
-by_first number flags exclusive (Err error) = drops_first number error
-by_first number flags exclusive (Ok route) = along_first open_walks_max (request_of number flags route.route.slash) exclusive path_start route
+from_first : (origin : Option Base) (next : Result Spot Errno → Plan) → ((start : Result Spot Errno) → EntersFirst (next start)) → EntersFirst (from_base origin next)
+from_first None next each = each (Ok (root_of 0))
+from_first (Some base) next each = step_first DescriptorsCell (DescriptorsOp (op_of_base base)) _ (λ told. each (spot_in told))
+
+in_first : (request : OpenRequest) (exclusive : is_exclusive request.flags ≡ true) (route : OpenRoute) (start : Result Spot Errno) → EntersFirst (opens_in request route start)
+in_first request exclusive route (Ok spot) = along_first open_walks_max request exclusive (start_in spot) route
+in_first request exclusive route (Err error) = drops_first request.number error
+
+by_first : (number : ℕ) (flags : OpenFlags) → is_exclusive flags ≡ true → (origin : Option Base) (route : Result OpenRoute Errno) → EntersFirst (opens_by number flags origin route)
+by_first number flags exclusive origin (Err error) = drops_first number error
+by_first number flags exclusive origin (Ok route) = from_first origin (opens_in (request_of number flags route.route.slash) route) (in_first (request_of number flags route.route.slash) exclusive route)
 
 -- replies to what is no number
 told_first : (given : Reply) → ((number : ℕ) → reply.Fd number ≡ given → ⊥) → EntersFirst (replies given)
 told_first given h = record { first = h }
 
-reserved_first : (flags : OpenFlags) → is_exclusive flags ≡ true → (route : Result OpenRoute Errno) (told : StepAnswer) → EntersFirst (reserved_plan flags route told)
-reserved_first flags exclusive route (Answered (NamesAnswer answer.Gone)) = told_first _ (λ number e. cc)
-reserved_first flags exclusive route (Answered (NamesAnswer answer.Absent)) = told_first _ (λ number e. cc)
-reserved_first flags exclusive route (Answered (NamesAnswer (answer.Found node))) = told_first _ (λ number e. cc)
-reserved_first flags exclusive route (Answered (NamesAnswer (answer.MadeDir id))) = told_first _ (λ number e. cc)
-reserved_first flags exclusive route (Answered (NamesAnswer (answer.MadeLink id))) = told_first _ (λ number e. cc)
-reserved_first flags exclusive route (Answered (NamesAnswer (answer.Taken node))) = told_first _ (λ number e. cc)
-reserved_first flags exclusive route (Answered (NamesAnswer answer.Done)) = told_first _ (λ number e. cc)
-reserved_first flags exclusive route (Answered (NamesAnswer (answer.RemovedFile other))) = told_first _ (λ number e. cc)
-reserved_first flags exclusive route (Answered (NamesAnswer answer.RemovedLink)) = told_first _ (λ number e. cc)
-reserved_first flags exclusive route (Answered (NamesAnswer answer.Same)) = told_first _ (λ number e. cc)
-reserved_first flags exclusive route (Answered (NamesAnswer (answer.Over other))) = told_first _ (λ number e. cc)
-reserved_first flags exclusive route (Answered (NamesAnswer answer.Moved)) = told_first _ (λ number e. cc)
-reserved_first flags exclusive route (Answered (NamesAnswer (answer.Names names))) = told_first _ (λ number e. cc)
-reserved_first flags exclusive route (Answered (NamesAnswer (answer.Fault error))) = told_first _ (λ number e. cc)
-reserved_first flags exclusive route (Answered (FilesAnswer file_answer.Gone)) = told_first _ (λ number e. cc)
-reserved_first flags exclusive route (Answered (FilesAnswer (file_answer.Size size))) = told_first _ (λ number e. cc)
-reserved_first flags exclusive route (Answered (FilesAnswer (file_answer.Fault error))) = told_first _ (λ number e. cc)
-reserved_first flags exclusive route (Answered (FilesAnswer (file_answer.Count count))) = told_first _ (λ number e. cc)
-reserved_first flags exclusive route (Answered (FilesAnswer (file_answer.File other made))) = told_first _ (λ number e. cc)
-reserved_first flags exclusive route (Answered (FilesAnswer (file_answer.Desc made))) = told_first _ (λ number e. cc)
-reserved_first flags exclusive route (Answered (FilesAnswer file_answer.Done)) = told_first _ (λ number e. cc)
-reserved_first flags exclusive route (Answered (FilesAnswer (file_answer.Bytes bytes))) = told_first _ (λ number e. cc)
-reserved_first flags exclusive route (Answered (FilesAnswer (file_answer.At at))) = told_first _ (λ number e. cc)
-reserved_first flags exclusive route (Answered (DescriptorsAnswer (fd_answer.Fd given))) = by_first given flags exclusive route
-reserved_first flags exclusive route (Answered (DescriptorsAnswer (fd_answer.File home named))) = told_first _ (λ number e. cc)
-reserved_first flags exclusive route (Answered (DescriptorsAnswer (fd_answer.Dir home named))) = told_first _ (λ number e. cc)
-reserved_first flags exclusive route (Answered (DescriptorsAnswer fd_answer.Done)) = told_first _ (λ number e. cc)
-reserved_first flags exclusive route (Answered (DescriptorsAnswer (fd_answer.Last home named))) = told_first _ (λ number e. cc)
-reserved_first flags exclusive route (Answered (DescriptorsAnswer (fd_answer.FdLast given home named))) = told_first _ (λ number e. cc)
-reserved_first flags exclusive route (Answered (DescriptorsAnswer (fd_answer.Fault error))) = told_first _ (λ number e. cc)
-reserved_first flags exclusive route Cancelled = told_first _ (λ number e. cc)
-reserved_first flags exclusive route Closed = told_first _ (λ number e. cc)
+reserved_first : (flags : OpenFlags) → is_exclusive flags ≡ true → (origin : Option Base) (route : Result OpenRoute Errno) (told : StepAnswer) → EntersFirst (reserved_plan flags origin route told)
+reserved_first flags exclusive origin route (Answered (NamesAnswer answer.Gone)) = told_first _ (λ number e. cc)
+reserved_first flags exclusive origin route (Answered (NamesAnswer answer.Absent)) = told_first _ (λ number e. cc)
+reserved_first flags exclusive origin route (Answered (NamesAnswer (answer.Found node))) = told_first _ (λ number e. cc)
+reserved_first flags exclusive origin route (Answered (NamesAnswer (answer.MadeDir id))) = told_first _ (λ number e. cc)
+reserved_first flags exclusive origin route (Answered (NamesAnswer (answer.MadeLink id))) = told_first _ (λ number e. cc)
+reserved_first flags exclusive origin route (Answered (NamesAnswer (answer.Taken node))) = told_first _ (λ number e. cc)
+reserved_first flags exclusive origin route (Answered (NamesAnswer answer.Done)) = told_first _ (λ number e. cc)
+reserved_first flags exclusive origin route (Answered (NamesAnswer (answer.RemovedFile other))) = told_first _ (λ number e. cc)
+reserved_first flags exclusive origin route (Answered (NamesAnswer answer.RemovedLink)) = told_first _ (λ number e. cc)
+reserved_first flags exclusive origin route (Answered (NamesAnswer answer.Same)) = told_first _ (λ number e. cc)
+reserved_first flags exclusive origin route (Answered (NamesAnswer (answer.Over other))) = told_first _ (λ number e. cc)
+reserved_first flags exclusive origin route (Answered (NamesAnswer answer.Moved)) = told_first _ (λ number e. cc)
+reserved_first flags exclusive origin route (Answered (NamesAnswer (answer.Names names))) = told_first _ (λ number e. cc)
+reserved_first flags exclusive origin route (Answered (NamesAnswer (answer.Fault error))) = told_first _ (λ number e. cc)
+reserved_first flags exclusive origin route (Answered (FilesAnswer file_answer.Gone)) = told_first _ (λ number e. cc)
+reserved_first flags exclusive origin route (Answered (FilesAnswer (file_answer.Size size))) = told_first _ (λ number e. cc)
+reserved_first flags exclusive origin route (Answered (FilesAnswer (file_answer.Fault error))) = told_first _ (λ number e. cc)
+reserved_first flags exclusive origin route (Answered (FilesAnswer (file_answer.Count count))) = told_first _ (λ number e. cc)
+reserved_first flags exclusive origin route (Answered (FilesAnswer (file_answer.File other made))) = told_first _ (λ number e. cc)
+reserved_first flags exclusive origin route (Answered (FilesAnswer (file_answer.Desc made))) = told_first _ (λ number e. cc)
+reserved_first flags exclusive origin route (Answered (FilesAnswer file_answer.Done)) = told_first _ (λ number e. cc)
+reserved_first flags exclusive origin route (Answered (FilesAnswer (file_answer.Bytes bytes))) = told_first _ (λ number e. cc)
+reserved_first flags exclusive origin route (Answered (FilesAnswer (file_answer.At at))) = told_first _ (λ number e. cc)
+reserved_first flags exclusive origin route (Answered (DescriptorsAnswer (fd_answer.Fd given))) = by_first given flags exclusive origin route
+reserved_first flags exclusive origin route (Answered (DescriptorsAnswer (fd_answer.File home named))) = told_first _ (λ number e. cc)
+reserved_first flags exclusive origin route (Answered (DescriptorsAnswer (fd_answer.Dir home named))) = told_first _ (λ number e. cc)
+reserved_first flags exclusive origin route (Answered (DescriptorsAnswer fd_answer.Done)) = told_first _ (λ number e. cc)
+reserved_first flags exclusive origin route (Answered (DescriptorsAnswer (fd_answer.Last home named))) = told_first _ (λ number e. cc)
+reserved_first flags exclusive origin route (Answered (DescriptorsAnswer (fd_answer.FdLast given home named))) = told_first _ (λ number e. cc)
+reserved_first flags exclusive origin route (Answered (DescriptorsAnswer (fd_answer.Fault error))) = told_first _ (λ number e. cc)
+reserved_first flags exclusive origin route Cancelled = told_first _ (λ number e. cc)
+reserved_first flags exclusive origin route Closed = told_first _ (λ number e. cc)
 
-opens_first : (path : List ℕ) (flags : OpenFlags) → is_exclusive flags ≡ true → (fault : Option Errno) → EntersFirst (unless_fault fault (steps DescriptorsCell (DescriptorsOp fd.Reserve) (reserved_plan flags (open_route path))))
-opens_first path flags exclusive (Some error) = fails_first error
-opens_first path flags exclusive None = step_first DescriptorsCell (DescriptorsOp fd.Reserve) (reserved_plan flags (open_route path)) (λ told. reserved_first flags exclusive (open_route path) told)
+opens_first : (at : PathAt) (flags : OpenFlags) → is_exclusive flags ≡ true → (fault : Option Errno) → EntersFirst (unless_fault fault (steps DescriptorsCell (DescriptorsOp fd.Reserve) (reserved_plan flags at.base (open_route at.path))))
+opens_first at flags exclusive (Some error) = fails_first error
+opens_first at flags exclusive None = step_first DescriptorsCell (DescriptorsOp fd.Reserve) (reserved_plan flags at.base (open_route at.path)) (λ told. reserved_first flags exclusive at.base (open_route at.path) told)
 
 enters_along : (p : Program) (taken : List Step) (number : ℕ) → First p → Takes p taken (reply.Fd number) → Enters taken
 enters_along (finished given) [] number first takes = absurd (first number takes)
@@ -220,5 +230,11 @@ enters_along (asks cell op next) (step ∷ taken) number first (told, is, rest) 
   by_first_step (inl entered) later = inl (subst (λ (s : Step). EntersBy s.op s.outcome) (sym is) entered)
   by_first_step (inr goes_on) later = inr (later goes_on)
 
+opens_make : (at : PathAt) (flags : OpenFlags) → MakesItself flags (program_of (opens at flags))
+opens_make at flags taken number exclusive takes = enters_along (program_of (opens at flags)) taken number (opens_first at flags exclusive (flags_fault flags)).first takes
+
 pub exclusives_make : ExclusivesMake
-exclusives_make path flags taken number exclusive takes = enters_along (program (Open path flags)) taken number (opens_first path flags exclusive (flags_fault flags)).first takes
+exclusives_make = record {
+  opens = λ version path flags. opens_make (path_at version Cwd path) flags;
+  openat = λ version base path flags. opens_make (path_at version base path) flags;
+}

@@ -1,5 +1,5 @@
 -- A call on files that replies an error leaves the store as it was.
-use Rattle.std.proofs.Common.{◌≡◌, ℕ, ◌%◌, Bool, true, false, if◌then◌else◌, Option, None, Some, IsSome, slice_set, refl, sym, ap, ◌∙◌}
+use Rattle.std.proofs.Common.{◌≡◌, ℕ, ◌%◌, Bool, true, false, if◌then◌else◌, Option, None, Some, IsSome, refl, sym, ap, ◌∙◌}
 use Rattle.wf_core.specs.Limits.{group_count}
 use Rattle.wf_core.specs.declared.errno.Errno.{Errno}
 use Rattle.wf_core.specs.declared.errno.Errno.TheVariants.{Ebadf}
@@ -7,7 +7,7 @@ use Rattle.file_store.specs.declared.descriptor_operation.Slot.{Slot}
 use Rattle.file_store.specs.declared.descriptor_operation.Slot.TheVariants as slot
 use Rattle.file_store.specs.declared.descriptor_operation.FdOp.TheVariants as fd
 use Rattle.file_store.specs.declared.descriptor_operation.FdAnswer.TheVariants as fd_answer
-use Rattle.file_store.specs.DescriptorMap.{Map, DescriptorsOutcome, outcome_of, slot_at, is_named, is_description_open, lowest_free, look_answer, place_outcome, copyto_outcome_over, take_outcome}
+use Rattle.file_store.specs.DescriptorMap.{with_slot, Map, DescriptorsOutcome, outcome_of, slot_at, is_named, is_description_open, lowest_free, look_answer, place_outcome, copyto_outcome_over, take_outcome}
 use Rattle.file_store.specs.declared.file.Description.{Description}
 use Rattle.file_store.specs.declared.file_operation.FileAnswer.{FileAnswer}
 use Rattle.file_store.specs.declared.file_operation.FileAnswer.TheVariants as file_answer
@@ -82,7 +82,7 @@ module _ (store : Store) (there : DescriptionsAreThere store) where
   take_same number slot.Free is error e = refl
   take_same number slot.Reserved is error e = refl
   take_same number (slot.Dir backend directory) is error e = cc
-  take_same number (slot.File backend description) is error e = take_last number backend description (slice_set store.descriptors number slot.Free) (is_description_open backend description (slice_set store.descriptors number slot.Free)) is error e
+  take_same number (slot.File backend description) is error e = take_last number backend description (with_slot store.descriptors number slot.Free) (is_description_open backend description (with_slot store.descriptors number slot.Free)) is error e
 
   pub takes_same : (number : ℕ) → Same store (at_once store (changes_numbers (fd.Take number)))
   takes_same number = take_same number (slot_at store.descriptors number) refl
@@ -103,7 +103,7 @@ module _ (store : Store) (there : DescriptionsAreThere store) where
   onto_same target new slot.Free is error e = cc
   onto_same target new slot.Reserved is error e = refl
   onto_same target new (slot.Dir backend directory) is error e = cc
-  onto_same target new (slot.File backend description) is error e = onto_last target backend description (slice_set store.descriptors target new) (is_description_open backend description (slice_set store.descriptors target new)) is error e
+  onto_same target new (slot.File backend description) is error e = onto_last target backend description (with_slot store.descriptors target new) (is_description_open backend description (with_slot store.descriptors target new)) is error e
 
   copyto_same : (target : ℕ) (named : Slot) (may : Bool) → Same store (after_numbers store (if may then copyto_outcome_over store.descriptors target named (slot_at store.descriptors target) else outcome_of store.descriptors (fd_answer.Fault Ebadf)))
   copyto_same target named true error e = onto_same target named (slot_at store.descriptors target) refl error e

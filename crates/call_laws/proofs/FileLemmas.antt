@@ -110,12 +110,12 @@ counted_at left bytes offset d file count e = by_access (can_write d.mode.access
   by_access true e = by_offset (natural offset) e
   by_access false e = cc
 
-module _ (store : Store) (backend group file at : ℕ) (bytes : List ℕ) where
+module _ (version : ℕ) (store : Store) (backend group file at : ℕ) (bytes : List ℕ) where
   readat_same : (now : Group) (count : ℕ) (offset : ℤ) (o : Option (Description × File)) → (on_open now (readat_outcome now count offset) o).group ≡ now
   readat_same now count offset None = refl
   readat_same now count offset (Some o) = refl
 
-  reads_at : (before : Group) (old new : File) → WritesBytes before (group_at store backend group) file old new at bytes → AreReadAt store backend group file at bytes
+  reads_at : (before : Group) (old new : File) → WritesBytes before (group_at store backend group) file old new at bytes → AreReadAt version store backend group file at bytes
   reads_at before old new w reader skip count d opened same can low =
       let now : Group = group_at store backend group in
       let given : FilesOutcome = fstep now (op.Readat opened.id count (pos (at + skip))) in
@@ -124,7 +124,7 @@ module _ (store : Store) (backend group file at : ℕ) (bytes : List ℕ) where
       ∙ ap (λ (s : Store). replied s (reply_to_files given.answer)) (same_group store backend group)
       ∙ ap (λ (a : FileAnswer). replied store (reply_to_files a)) (group_writes.read_at before now file old new at bytes w opened.id skip count d opened.there same can low)
 
-module _ (store : Store) (number backend group : ℕ) (d : Description) (opened : IsOpenOn store number backend group d) where
+module _ (version : ℕ) (store : Store) (number backend group : ℕ) (d : Description) (opened : IsOpenOn store number backend group d) where
   abbrev now : Group
   now = group_at store backend group
 
@@ -143,16 +143,16 @@ module _ (store : Store) (number backend group : ℕ) (d : Description) (opened 
     there = ap (λ (g : Group). description_at g opened.id) (here left) ∙ is;
   }
 
-  file_written : (left : Group) (file at : ℕ) (bytes : List ℕ) (old new : File) → WritesBytes now left file old new at bytes → FileWritten store (later left) backend group file at bytes
+  file_written : (left : Group) (file at : ℕ) (bytes : List ℕ) (old new : File) → WritesBytes now left file old new at bytes → FileWritten version store (later left) backend group file at bytes
   file_written left file at bytes old new w = record {
     before = old;
     after = new;
     writes = subst (λ (g : Group). WritesBytes now g file old new at bytes) (sym (here left)) w;
     elsewhere = ap later (sym (here left));
-    read = reads_at (later left) backend group file at bytes now old new (subst (λ (g : Group). WritesBytes now g file old new at bytes) (sym (here left)) w);
+    read = reads_at version (later left) backend group file at bytes now old new (subst (λ (g : Group). WritesBytes now g file old new at bytes) (sym (here left)) w);
   }
 
-  written_by : (left : Group) (file : File) (count at : ℕ) (bytes : List ℕ) → count ≡ length bytes → IsWritten now left opened.id d file at bytes → WrittenBy store (later left) number backend group d count at bytes
+  written_by : (left : Group) (file : File) (count at : ℕ) (bytes : List ℕ) → count ≡ length bytes → IsWritten now left opened.id d file at bytes → WrittenBy version store (later left) number backend group d count at bytes
   written_by left file count at bytes all (new, w, moved) = record {
     all = all;
     file = file_written left d.file at bytes file new w;
@@ -162,17 +162,17 @@ module _ (store : Store) (number backend group : ℕ) (d : Description) (opened 
   abbrev called : DataCall → CallOutcome
   called purpose = at_once store (data_plan number purpose)
 
-  write_call : (count at : ℕ) (bytes : List ℕ) → ((file : File) → open_file_at now opened.id ≡ Some (d, file) → file_at now d.file ≡ Some file → (fstep now (op.Write opened.id bytes)).answer ≡ answer.Count count → IsWritten now (fstep now (op.Write opened.id bytes)).group opened.id d file at bytes) → (called (on_file.Write bytes)).reply ≡ reply.Count count → WrittenBy store (called (on_file.Write bytes)).store number backend group d count at bytes
+  write_call : (count at : ℕ) (bytes : List ℕ) → ((file : File) → open_file_at now opened.id ≡ Some (d, file) → file_at now d.file ≡ Some file → (fstep now (op.Write opened.id bytes)).answer ≡ answer.Count count → IsWritten now (fstep now (op.Write opened.id bytes)).group opened.id d file at bytes) → (called (on_file.Write bytes)).reply ≡ reply.Count count → WrittenBy version store (called (on_file.Write bytes)).store number backend group d count at bytes
   write_call count at bytes law e =
       let o : FilesOutcome = fstep now (op.Write opened.id bytes) in
       let is = opened_use store number (on_file.Write bytes) backend group d opened in
       let told : o.answer ≡ answer.Count count = count_told o.answer count (sym (ap (λ (c : CallOutcome). c.reply) is) ∙ e) in
       let (file, with_file, there) = file_found now opened.id d (write_outcome now opened.id bytes) opened.there (unfaulted o.answer (answer.Count count) told refl) in
       let all : count ≡ length bytes = counted now opened.id bytes d file count (sym (ap (λ (found : Option (Description × File)). (on_open now (write_outcome now opened.id bytes) found).answer) with_file) ∙ told) in
-      subst (λ (s : Store). WrittenBy store s number backend group d count at bytes) (sym (ap (λ (c : CallOutcome). c.store) is)) (written_by o.group file count at bytes all (law file with_file there told))
+      subst (λ (s : Store). WrittenBy version store s number backend group d count at bytes) (sym (ap (λ (c : CallOutcome). c.store) is)) (written_by o.group file count at bytes all (law file with_file there told))
 
   abbrev PwriteIs : Store → ℕ → ℕ → List ℕ → Type 0
-  PwriteIs new count at bytes = (count ≡ length bytes) × FileWritten store new backend group d.file at bytes × ((group_at new backend group).descriptions ≡ now.descriptions)
+  PwriteIs new count at bytes = (count ≡ length bytes) × FileWritten version store new backend group d.file at bytes × ((group_at new backend group).descriptions ≡ now.descriptions)
 
   pwritten : (left : Group) (file : File) (count at : ℕ) (bytes : List ℕ) → count ≡ length bytes → ((new : File) × WritesBytes now left d.file file new at bytes × (left.descriptions ≡ now.descriptions)) → PwriteIs (later left) count at bytes
   pwritten left file count at bytes all (new, w, same) = (all, file_written left d.file at bytes file new w, ap (λ (g : Group). g.descriptions) (here left) ∙ same)
@@ -187,7 +187,7 @@ module _ (store : Store) (number backend group : ℕ) (d : Description) (opened 
       subst (λ (s : Store). PwriteIs s count at bytes) (sym (ap (λ (c : CallOutcome). c.store) is)) (pwritten o.group file count at bytes all (group_writes.write_at now opened.id bytes offset at count d file with_file is_at some told))
 
   -- the end of the file that was written to
-  append_call : (count : ℕ) (bytes : List ℕ) (file : File) → file_at now d.file ≡ Some file → d.mode.append ≡ true → 0 < length bytes → (called (on_file.Write bytes)).reply ≡ reply.Count count → WrittenBy store (called (on_file.Write bytes)).store number backend group d count (length file.bytes) bytes
+  append_call : (count : ℕ) (bytes : List ℕ) (file : File) → file_at now d.file ≡ Some file → d.mode.append ≡ true → 0 < length bytes → (called (on_file.Write bytes)).reply ≡ reply.Count count → WrittenBy version store (called (on_file.Write bytes)).store number backend group d count (length file.bytes) bytes
   append_call count bytes file is mode some e = write_call count (length file.bytes) bytes (λ other with_file there told. appended other (sym there ∙ is) (group_writes.append now opened.id bytes count d other with_file mode some told)) e
     where
       appended : (other : File) → Some other ≡ Some file → IsWritten now (fstep now (op.Write opened.id bytes)).group opened.id d other (length other.bytes) bytes → IsWritten now (fstep now (op.Write opened.id bytes)).group opened.id d other (length file.bytes) bytes
@@ -242,13 +242,13 @@ module _ (store : Store) (number backend group : ℕ) (d : Description) (opened 
 
 pub writes_are_read : WritesAreRead
 writes_are_read = record {
-  write = λ store number backend group count d bytes opened mode some e. write_call store number backend group d opened count d.offset bytes (λ file with_file there told. group_writes.write (group_at store backend group) opened.id bytes count d file with_file mode some told) e;
-  append = λ store number backend group count d bytes file opened is mode some e. append_call store number backend group d opened count bytes file is mode some e;
-  pwrite = λ store number backend group count at d bytes offset opened is some e. pwrite_call store number backend group d opened count at bytes offset is some e;
+  write = λ version store number backend group count d bytes opened mode some e. write_call version store number backend group d opened count d.offset bytes (λ file with_file there told. group_writes.write (group_at store backend group) opened.id bytes count d file with_file mode some told) e;
+  append = λ version store number backend group count d bytes file opened is mode some e. append_call version store number backend group d opened count bytes file is mode some e;
+  pwrite = λ version store number backend group count at d bytes offset opened is some e. pwrite_call version store number backend group d opened count at bytes offset is some e;
 }
 
 pub reads_move_offsets : ReadsMoveOffsets
-reads_move_offsets store number backend group count d bytes opened e = read_call store number backend group d opened count bytes e
+reads_move_offsets version store number backend group count d bytes opened e = read_call version store number backend group d opened count bytes e
 
 pub cuts_keep_the_rest : CutsKeepTheRest
-cuts_keep_the_rest store number backend group n d size opened is e = cut_call store number backend group d opened n size is e
+cuts_keep_the_rest version store number backend group n d size opened is e = cut_call version store number backend group d opened n size is e

@@ -1,5 +1,5 @@
 -- A file that has lost its name is there as long as it is open.
-use Rattle.std.proofs.Common.{◌≡◌, ◌≢◌, inl, inr, ℕ, ◌%◌, ◌==◌, ◌||◌, Bool, true, false, if◌then◌else◌, List, Option, None, Some, ℤ, slice_set, refl, sym, ap, subst, ◌∙◌}
+use Rattle.std.proofs.Common.{◌≡◌, ◌≢◌, inl, inr, ℕ, ◌%◌, ◌==◌, ◌||◌, Bool, true, false, if◌then◌else◌, List, Option, None, Some, ℤ, refl, sym, ap, subst, ◌∙◌}
 use Rattle.std.proofs.lemmas.Bool.{false≢true}
 use Rattle.std.proofs.lemmas.Bool.Decides.{Decides-eqb}
 use Rattle.wf_core.specs.Limits.{group_count}
@@ -10,7 +10,7 @@ use Rattle.name_store.proofs.Changes.{same_id}
 use Rattle.file_store.specs.declared.descriptor_operation.Slot.{Slot}
 use Rattle.file_store.specs.declared.descriptor_operation.Slot.TheVariants as slot
 use Rattle.file_store.specs.declared.descriptor_operation.FdAnswer.TheVariants as fd_answer
-use Rattle.file_store.specs.DescriptorMap.{look_answer, slot_at, take_outcome}
+use Rattle.file_store.specs.DescriptorMap.{with_slot, look_answer, slot_at, take_outcome, Map}
 use Rattle.file_store.specs.declared.file.File.{File}
 use Rattle.file_store.specs.declared.file.Description.{Description}
 use Rattle.file_store.specs.declared.file_operation.FileOp.{FileOp}
@@ -37,7 +37,7 @@ use Rattle.call_laws.specs.OpenLaws.{HasGroup}
 use Rattle.call_laws.proofs.GroupLemmas.{group_here, groups_named}
 use Rattle.call_laws.proofs.RemovalLemmas.{unlink_removes}
 use Rattle.call_laws.proofs.SharingLemmas.{after_numbers}
-use Rattle.call_laws.proofs.TidyLemmas.{group_either, with_slot}
+use Rattle.call_laws.proofs.TidyLemmas.{group_either, store_with_slot}
 
 -- What is asked of a file that is open.
 
@@ -112,7 +112,7 @@ used_alike old new purpose alike slot.Reserved = refl
 used_alike old new purpose alike (slot.Dir b id) = refl
 used_alike old new purpose alike (slot.File b id) = ap reply_to_files (alike b id)
 
-module _ (store : Store) (backend : ℕ) (tree : Tree) where
+module _ (version : ℕ) (store : Store) (backend : ℕ) (tree : Tree) where
   abbrev named : Store
   named = with_names store backend tree
 
@@ -136,21 +136,21 @@ module _ (store : Store) (backend : ℕ) (tree : Tree) where
   loss_descriptors (Mount other) = refl
   loss_descriptors (FileNode file) = refl
 
-  loss_stays : (node : Node) → ReadsAsBefore store (after_loss named backend (Some node))
+  loss_stays : (node : Node) → ReadsAsBefore version store (after_loss named backend (Some node))
   loss_stays node = record {
-    pread = λ number count offset. ap (λ (s : Slot). (at_once (after_loss named backend (Some node)) (data_step_plan (on_file.Pread count offset) (Answered (DescriptorsAnswer (look_answer s))))).reply) (ap (λ (m : List Slot). slot_at m number) (loss_descriptors node)) ∙ used_alike store (after_loss named backend (Some node)) (on_file.Pread count offset) (lost_alike (λ id. op.Readat id count offset) (λ group file id. read_same group file id count offset) node) (slot_at store.descriptors number);
-    fstat = λ number. ap (λ (s : Slot). (at_once (after_loss named backend (Some node)) (data_step_plan on_file.Fstat (Answered (DescriptorsAnswer (look_answer s))))).reply) (ap (λ (m : List Slot). slot_at m number) (loss_descriptors node)) ∙ used_alike store (after_loss named backend (Some node)) on_file.Fstat (lost_alike (λ id. op.Size id) (λ group file id. size_same group file id) node) (slot_at store.descriptors number);
+    pread = λ number count offset. ap (λ (s : Slot). (at_once (after_loss named backend (Some node)) (data_step_plan (on_file.Pread count offset) (Answered (DescriptorsAnswer (look_answer s))))).reply) (ap (λ (m : Map). slot_at m number) (loss_descriptors node)) ∙ used_alike store (after_loss named backend (Some node)) (on_file.Pread count offset) (lost_alike (λ id. op.Readat id count offset) (λ group file id. read_same group file id count offset) node) (slot_at store.descriptors number);
+    fstat = λ number. ap (λ (s : Slot). (at_once (after_loss named backend (Some node)) (data_step_plan on_file.Fstat (Answered (DescriptorsAnswer (look_answer s))))).reply) (ap (λ (m : Map). slot_at m number) (loss_descriptors node)) ∙ used_alike store (after_loss named backend (Some node)) on_file.Fstat (lost_alike (λ id. op.Size id) (λ group file id. size_same group file id) node) (slot_at store.descriptors number);
   }
 
 pub removed_files_stay : RemovedFilesStay
 removed_files_stay = record {
-  unlink = λ store path done. let gone = unlink_removes store path done in subst (ReadsAsBefore store) (sym gone.elsewhere) (loss_stays store gone.here.backend _ gone.node);
+  unlink = λ version store path done. let gone = unlink_removes version store path done in subst (ReadsAsBefore version store) (sym gone.elsewhere) (loss_stays version store gone.here.backend _ gone.node);
   loss = loss_stays;
 }
 
 -- The last number.
 
-module _ (store : Store) (number backend group : ℕ) (d : Description) (file : File) (has : HasGroup store backend group) (last : IsLast store number backend group d) (is : file_at (group_at store backend group) d.file ≡ Some file) (unlinked : file.linked ≡ false) where
+module _ (version : ℕ) (store : Store) (number backend group : ℕ) (d : Description) (file : File) (has : HasGroup store backend group) (last : IsLast store number backend group d) (is : file_at (group_at store backend group) d.file ≡ Some file) (unlinked : file.linked ≡ false) where
   abbrev id : ℕ
   id = last.opened.id
 
@@ -158,7 +158,7 @@ module _ (store : Store) (number backend group : ℕ) (d : Description) (file : 
   now = group_at store backend group
 
   abbrev freed : Store
-  freed = with_slot store number slot.Free
+  freed = store_with_slot store number slot.Free
 
   released : (fstep now (op.Release id)).answer ≡ answer.Done
   released = ap (λ (found : Option Description). (release_outcome now id found).answer) last.opened.there
@@ -171,18 +171,18 @@ module _ (store : Store) (number backend group : ℕ) (d : Description) (file : 
       ∙ ap (λ (linked : Bool). let files : Table File = if linked || false then now.files else without_row now.files d.file in file_at (with_files now files) d.file) unlinked
       ∙ removed_here now.files d.file _ has.sound.file_ids
 
-  closes : posix store (Close number) ≡ record { store = with_group freed backend group (fstep now (op.Release id)).group; reply = reply.Done }
+  closes : posix version store (Close number) ≡ record { store = with_group freed backend group (fstep now (op.Release id)).group; reply = reply.Done }
   closes =
       ap (λ (s : Slot). after_numbers store (take_outcome store.descriptors number s)) last.opened.named
-      ∙ ap (λ (still : Bool). after_numbers store (record { map = slice_set store.descriptors number slot.Free; answer = if still then fd_answer.Done else fd_answer.Last backend id })) last.number_is
+      ∙ ap (λ (still : Bool). after_numbers store (record { map = with_slot store.descriptors number slot.Free; answer = if still then fd_answer.Done else fd_answer.Last backend id })) last.number_is
       ∙ ap (λ (g : ℕ). let o : FilesOutcome = fstep (group_at store backend g) (op.Release id) in let c : CallOutcome = record { store = with_group freed backend g o.group; reply = unless_told (fault_in (Answered (FilesAnswer o.answer))) reply.Done } in c) last.opened.of_group
       ∙ ap (λ (a : FileAnswer). let c : CallOutcome = record { store = with_group freed backend group (fstep now (op.Release id)).group; reply = unless_told (fault_in (Answered (FilesAnswer a))) reply.Done } in c) released
 
-  goes : ((posix store (Close number)).reply ≡ reply.Done) × (file_at (group_at (posix store (Close number)).store backend group) d.file ≡ None)
+  goes : ((posix version store (Close number)).reply ≡ reply.Done) × (file_at (group_at (posix version store (Close number)).store backend group) d.file ≡ None)
   goes = (
     ap (λ (c : CallOutcome). c.reply) closes,
     ap (λ (c : CallOutcome). file_at (group_at c.store backend group) d.file) closes ∙ ap (λ (g : Group). file_at g d.file) (group_here freed backend group (fstep now (op.Release id)).group id d last.opened.there) ∙ swept,
   )
 
 pub removed_files_go : RemovedFilesGo
-removed_files_go store number backend group d file has last is unlinked = goes store number backend group d file has last is unlinked
+removed_files_go version store number backend group d file has last is unlinked = goes version store number backend group d file has last is unlinked

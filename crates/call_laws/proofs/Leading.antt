@@ -13,9 +13,9 @@ use Rattle.path_walk.specs.declared.route.Manner.TheVariants.{OnWay}
 use Rattle.path_walk.specs.declared.route.Spot.{Spot}
 use Rattle.path_walk.specs.declared.route.End.{End}
 use Rattle.path_walk.specs.Store.{Store, names_at}
-use Rattle.call_laws.specs.Entries.{node_of}
+use Rattle.call_laws.specs.Entries.{node_of, current_spot, path_spot}
 use Rattle.call_laws.specs.PathLaws.{LeadsOn}
-use Rattle.path_walk.specs.Paths.{parts_of, slash_of}
+use Rattle.path_walk.specs.Paths.{parts_of, slash_of, is_absolute}
 use Rattle.path_walk.specs.PathMeaning.{Way, Course, ends, goes, course, end_of_course, on_found, entry_in, parent_in, parent_from, root_of, start_of, spot_beside, resolve}
 
 entry_course : (directory : Option Listing) (name : List ℕ) (manner : Manner) (rest : List Part) (slash : Bool) (links : ℕ) (here : Spot) (next : Way → Result End Errno) → on_found (entry_in directory name) (λ node. end_of_course (course manner node rest slash links here) next) ≡ end_of_course (course manner (node_in directory name) rest slash links here) next
@@ -69,6 +69,11 @@ module _ (store : Store) (rest : Part) (more : List Part) (manner : Manner) (sla
 pub record Extends (earlier later : Store) : Type 0 where
   pub entries : (here : Spot) (name : List ℕ) (node : Node) → node_of earlier here name ≡ Some node → node_of later here name ≡ Some node
   pub parents : (here : Spot) (parent : ℕ) → parent_at (names_at earlier here.backend) here.directory ≡ Some parent → parent_at (names_at later here.backend) here.directory ≡ Some parent
+  pub current : current_spot later ≡ current_spot earlier
+
+-- where a path starts, the current directory being the same
+pub spot_still : (version : ℕ) (earlier later : Store) (path : List ℕ) → current_spot later ≡ current_spot earlier → path_spot version later path ≡ path_spot version earlier path
+spot_still version earlier later path same = ap (λ (spot : Spot). if version == 1 || is_absolute path then root_of 0 else spot) same
 
 parent_still : (earlier later : Option Listing) (here : Spot) (prefix whole : Spot → Result End Errno) (end : End) (is_root : Bool) → ((parent : ℕ) → parent_of earlier ≡ Some parent → parent_of later ≡ Some parent) → ((there : Spot) → prefix there ≡ Ok end → whole there ≡ Ok end) → on_found (if is_root then Ok (root_of 0) else parent_in earlier here) prefix ≡ Ok end → on_found (if is_root then Ok (root_of 0) else parent_in later here) whole ≡ Ok end
 parent_still earlier later here prefix whole end true up each h = each (root_of 0) h
@@ -111,6 +116,7 @@ SameOrNone old new = (new ≡ old) ⊎ (new ≡ None)
 pub record Loses (earlier later : Store) : Type 0 where
   pub entries : (here : Spot) (name : List ℕ) → SameOrNone (node_of earlier here name) (node_of later here name)
   pub parents : (here : Spot) → SameOrNone (parent_at (names_at earlier here.backend) here.directory) (parent_at (names_at later here.backend) here.directory)
+  pub current : current_spot later ≡ current_spot earlier
 
 -- the same end, or that nothing is there
 abbrev pub SameOrAbsent : Result End Errno → Result End Errno → Type 0

@@ -29,3 +29,12 @@ mod SmallDebts
 mod NamedFiles
 mod UsedFiles
 mod RefusedOpens
+mod ApartLemmas
+mod ApartPlans
+mod StartLemmas
+mod StartSteps
+mod RefusedBases
+mod DirectoryLemmas
+mod CurrentLemmas
+mod KeptDirectory
+mod RemovedDirectories

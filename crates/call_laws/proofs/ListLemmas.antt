@@ -32,24 +32,24 @@ list_at store there directory start is =
     ap (λ (d : Option Listing). after_names store there.spot.backend (unless_gone (names_at store there.spot.backend) d (λ d. outcome_of (names_at store there.spot.backend) (list_answer d start)))) is
     ∙ ap (λ (s : Store). replied s (Names (listed_from directory start))) (same_names store there.spot.backend)
 
-list_replies : (store : Store) (path : List ℕ) (there : Station) (directory : Listing) → path_fault path ≡ None → path_end store Follows path ≡ Ok (Directory there) → directory_at store there.spot ≡ Some directory → (start : ℕ) → posix store (ListCall path start) ≡ replied store (Names (listed_from directory start))
-list_replies store path there directory walked end is start =
-    whole_at store Follows path (list_plan start) walked ∙ ap (λ (e : Result End Errno). at_once store (list_plan start e)) end ∙ list_at store there directory start is
+list_replies : (version : ℕ) (store : Store) (path : List ℕ) (there : Station) (directory : Listing) → path_fault path ≡ None → path_end version store Follows path ≡ Ok (Directory there) → directory_at store there.spot ≡ Some directory → (start : ℕ) → posix version store (ListCall path start) ≡ replied store (Names (listed_from directory start))
+list_replies version store path there directory walked end is start =
+    whole_at version store Follows path (list_plan start) walked ∙ ap (λ (e : Result End Errno). at_once store (list_plan start e)) end ∙ list_at store there directory start is
 
 -- so many lists are of so many times as many names
-lists_are : (store : Store) (path : List ℕ) (keys : List (List ℕ)) → ((start : ℕ) → posix store (ListCall path start) ≡ replied store (Names (take list_max (drop start keys)))) → (lists start : ℕ) → names_listed lists store path start ≡ take (lists * list_max) (drop start keys)
-lists_are store path keys each zero start = refl
-lists_are store path keys each (suc lists) start =
-    ap (λ (o : CallOutcome). names_in o.reply ++ names_listed lists store path (start + list_max)) (each start)
-    ∙ ap (λ (rest : List (List ℕ)). take list_max (drop start keys) ++ rest) (lists_are store path keys each lists (start + list_max) ∙ ap (take (lists * list_max)) (sym (drop-drop list_max start keys)))
+lists_are : (version : ℕ) (store : Store) (path : List ℕ) (keys : List (List ℕ)) → ((start : ℕ) → posix version store (ListCall path start) ≡ replied store (Names (take list_max (drop start keys)))) → (lists start : ℕ) → names_listed version lists store path start ≡ take (lists * list_max) (drop start keys)
+lists_are version store path keys each zero start = refl
+lists_are version store path keys each (suc lists) start =
+    ap (λ (o : CallOutcome). names_in o.reply ++ names_listed version lists store path (start + list_max)) (each start)
+    ∙ ap (λ (rest : List (List ℕ)). take list_max (drop start keys) ++ rest) (lists_are version store path keys each lists (start + list_max) ∙ ap (take (lists * list_max)) (sym (drop-drop list_max start keys)))
     ∙ sym (take-add list_max (lists * list_max) (drop start keys))
     ∙ ap (λ (n : ℕ). take n (drop start keys)) (omega arith)
 
-pub list_names_each_once : (store : Store) (path : List ℕ) (there : Station) (directory : Listing) → path_fault path ≡ None → path_end store Follows path ≡ Ok (Directory there) → directory_at store there.spot ≡ Some directory → ListsNames store path there.spot directory
-list_names_each_once store path there directory walked end is =
-    let each = list_replies store path there directory walked end is in
+pub list_names_each_once : (version : ℕ) (store : Store) (path : List ℕ) (there : Station) (directory : Listing) → path_fault path ≡ None → path_end version store Follows path ≡ Ok (Directory there) → directory_at store there.spot ≡ Some directory → ListsNames version store path there.spot directory
+list_names_each_once version store path there directory walked end is =
+    let each = list_replies version store path there directory walked end is in
     record {
       one = each;
-      all = λ lists enough. lists_are store path (keys_of directory.entries) each lists 0 ∙ take_all (lists * list_max) (keys_of directory.entries) enough;
+      all = λ lists enough. lists_are version store path (keys_of directory.entries) each lists 0 ∙ take_all (lists * list_max) (keys_of directory.entries) enough;
       order = λ sorted. sorted directory is;
     }

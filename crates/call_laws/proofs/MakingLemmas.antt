@@ -1,4 +1,5 @@
 -- What `mkdir` and `symlink` make is there, and nothing else has changed.
+use Rattle.path_walk.specs.declared.call.Base.TheVariants.{Cwd}
 use Rattle.std.proofs.Common.{◌≡◌, ◌≢◌, ℕ, Bool, true, false, List, [], ◌∷◌, ◌++◌, length, Option, None, Some, Result, Ok, refl, sym, ap, subst, ◌∙◌, arith}
 use Rattle.wf_core.specs.declared.errno.Errno.{Errno}
 use Rattle.wf_core.specs.declared.errno.Errno.TheVariants.{Eexist}
@@ -25,7 +26,7 @@ use Rattle.path_walk.specs.Paths.{slash_of}
 use Rattle.path_walk.specs.PathMeaning.{Way, course, end_of_course, resolve}
 use Rattle.path_walk.specs.Programs.{CallOutcome}
 use Rattle.path_walk.specs.Plans.{at_once, unless_fault}
-use Rattle.path_walk.specs.Calls.{changes, plan_after, slash_fault, status_plan, text_fault, text_plan, unlinked_by}
+use Rattle.path_walk.specs.Calls.{changes, plan_after, slash_fault, status_plan, text_fault, text_plan, unlinked_by, path_at}
 use Rattle.path_walk.specs.Posix.{posix}
 use Rattle.call_laws.specs.Entries.{NamesEntry, directory_at, node_of, path_end}
 use Rattle.call_laws.specs.EntryLaws.{EntryChanged, LinkIsThere, MadeIsThere}
@@ -77,7 +78,7 @@ module _ (tree : Tree) (id : ℕ) (name : List ℕ) (node : Node) (slot : Option
 
   -- a store with the new tree extends the one before
   pub store_grown : (store : Store) (backend : ℕ) → names_at store backend ≡ tree → Extends store (with_names store backend new_tree)
-  store_grown store backend is_tree = record { entries = entries_still; parents = parents_still }
+  store_grown store backend is_tree = record { entries = entries_still; parents = parents_still; current = refl }
     where
       here_is : names_at (with_names store backend new_tree) backend ≡ new_tree
       here_is = names_here store backend new_tree id directory (ap (λ (t : Tree). dir_at t id) is_tree ∙ is_there)
@@ -113,21 +114,21 @@ there_in tree (Some directory) name node outcome_at h = ap outcome_at h
 -- `mkdir`
 
 -- a directory was made
-record MadeDirectory (store : Store) (path : List ℕ) : Type 0 where
+record MadeDirectory (version : ℕ) (store : Store) (path : List ℕ) : Type 0 where
   here : Spot
   name : List ℕ
-  names : NamesEntry store path here name
+  names : NamesEntry version store path here name
   directory : Listing
   there : directory_at store here ≡ Some directory
   absent : node_of store here name ≡ None
   outcome : nstep (names_at store here.backend) (Makedir here.directory name) ≡ outcome_of (with_new_directory (names_at store here.backend) here.directory name) (MadeDir (length (names_at store here.backend)))
-  new : (posix store (Mkdir path)).store ≡ with_names store here.backend (with_new_directory (names_at store here.backend) here.directory name)
+  new : (posix version store (Mkdir path)).store ≡ with_names store here.backend (with_new_directory (names_at store here.backend) here.directory name)
 
-mkdir_made : (store : Store) (path : List ℕ) → (posix store (Mkdir path)).reply ≡ Done → MadeDirectory store path
-mkdir_made store path h =
-    let (here, name, names, slash) = change_done store change.Makedir path h in
+mkdir_made : (version : ℕ) (store : Store) (path : List ℕ) → (posix version store (Mkdir path)).reply ≡ Done → MadeDirectory version store path
+mkdir_made version store path h =
+    let (here, name, names, slash) = change_done version store change.Makedir path h in
     let tree : Tree = names_at store here.backend in
-    let at : posix store (Mkdir path) ≡ after_names store here.backend (nstep tree (Makedir here.directory name)) = change_at store change.Makedir path here name names slash in
+    let at : posix version store (Mkdir path) ≡ after_names store here.backend (nstep tree (Makedir here.directory name)) = change_at version store change.Makedir path here name names slash in
     let (directory, there, absent, outcome) = makes_in store here.backend tree (dir_at tree here.directory) name (outcome_of (with_new_directory tree here.directory name) (MadeDir (length tree))) (makedir_outcome_at tree here.directory name) refl (λ node. refl) (ap (λ (o : CallOutcome). o.reply) (sym at) ∙ h) in
     record {
       here = here;
@@ -140,12 +141,12 @@ mkdir_made store path h =
       new = ap (λ (o : CallOutcome). o.store) at ∙ ap (λ (o : NamesOutcome). (after_names store here.backend o).store) outcome;
     }
 
-pub mkdir_makes : (store : Store) (path : List ℕ) → (posix store (Mkdir path)).reply ≡ Done → EntryChanged store (posix store (Mkdir path)).store path (λ old new id name. (made : ℕ) × DirectoryMade old new id name made)
-mkdir_makes store path h =
-    let m = mkdir_made store path h in
+pub mkdir_makes : (version : ℕ) (store : Store) (path : List ℕ) → (posix version store (Mkdir path)).reply ≡ Done → EntryChanged version store (posix version store (Mkdir path)).store path (λ old new id name. (made : ℕ) × DirectoryMade old new id name made)
+mkdir_makes version store path h =
+    let m = mkdir_made version store path h in
     let tree : Tree = names_at store m.here.backend in
     let new_tree : Tree = with_new_directory tree m.here.directory m.name in
-    let names : names_at (posix store (Mkdir path)).store m.here.backend ≡ new_tree = ap (λ (s : Store). names_at s m.here.backend) m.new ∙ names_here store m.here.backend new_tree m.here.directory m.directory m.there in
+    let names : names_at (posix version store (Mkdir path)).store m.here.backend ≡ new_tree = ap (λ (s : Store). names_at s m.here.backend) m.new ∙ names_here store m.here.backend new_tree m.here.directory m.directory m.there in
     record {
       here = m.here;
       name = m.name;
@@ -154,52 +155,52 @@ mkdir_makes store path h =
       elsewhere = m.new ∙ ap (with_names store m.here.backend) (sym names);
     }
 
-pub mkdir_then_stat : (store : Store) (path : List ℕ) → (posix store (Mkdir path)).reply ≡ Done → MadeIsThere store path
-mkdir_then_stat store path h =
-    let m = mkdir_made store path h in
+pub mkdir_then_stat : (version : ℕ) (store : Store) (path : List ℕ) → (posix version store (Mkdir path)).reply ≡ Done → MadeIsThere version store path
+mkdir_then_stat version store path h =
+    let m = mkdir_made version store path h in
     let tree : Tree = names_at store m.here.backend in
     let new : Store = with_names store m.here.backend (with_new_directory tree m.here.directory m.name) in
     let more : Extends store new = store_grown tree m.here.directory m.name (Dir (length tree)) (Some (empty_in m.here.directory)) m.directory m.there m.absent store m.here.backend refl in
-    let names : NamesEntry new path m.here m.name = names_still store new path m.here m.name more m.names in
+    let names : NamesEntry version new path m.here m.name = names_still version store new path m.here m.name more m.names in
     let there : node_of new m.here m.name ≡ Some (Dir (length tree)) =
     ap (λ (t : Tree). node_at t m.here.directory m.name) (names_here store m.here.backend (with_new_directory tree m.here.directory m.name) m.here.directory m.directory m.there) ∙ grown_here tree m.here.directory m.name (Dir (length tree)) (Some (empty_in m.here.directory)) m.directory m.there m.absent in
-    let end = entry_end new Follows path m.here m.name names in
+    let end = entry_end version new Follows path m.here m.name names in
     record {
       stat =
-          ap (λ (s : Store). (posix s (Stat path)).reply) m.new
-          ∙ ap (λ (o : CallOutcome). o.reply) (whole_at new Follows path status_plan m.names.walked)
+          ap (λ (s : Store). (posix version s (Stat path)).reply) m.new
+          ∙ ap (λ (o : CallOutcome). o.reply) (whole_at version new Follows path status_plan m.names.walked)
           ∙ ap (λ (e : Result End Errno). (at_once new (status_plan e)).reply) (end ∙ ap (λ (n : Option Node). end_of_course (course Follows n [] (slash_of path) names.links m.here) (λ w. resolve new names.left w.rest Follows w.slash w.links w.spot)) there);
       once =
-          ap (λ (s : Store). (posix s (Mkdir path)).reply) m.new
-          ∙ ap (λ (o : CallOutcome). o.reply) (change_at new change.Makedir path m.here m.name names refl)
+          ap (λ (s : Store). (posix version s (Mkdir path)).reply) m.new
+          ∙ ap (λ (o : CallOutcome). o.reply) (change_at version new change.Makedir path m.here m.name names refl)
           ∙ ap (λ (o : NamesOutcome). (after_names new m.here.backend o).reply) (there_in (names_at new m.here.backend) (directory_at new m.here) m.name (Dir (length tree)) (makedir_outcome_at (names_at new m.here.backend) m.here.directory m.name) there);
     }
 
 -- `symlink`
 
 -- a link was made
-record MadeLinkText (store : Store) (text path : List ℕ) : Type 0 where
+record MadeLinkText (version : ℕ) (store : Store) (text path : List ℕ) : Type 0 where
   here : Spot
   name : List ℕ
-  names : NamesEntry store path here name
+  names : NamesEntry version store path here name
   slash : slash_of path ≡ false
   directory : Listing
   there : directory_at store here ≡ Some directory
   absent : node_of store here name ≡ None
   outcome : nstep (names_at store here.backend) (Addlink here.directory name text) ≡ outcome_of (with_new_link (names_at store here.backend) here.directory name text) (MadeLink (length (names_at store here.backend)))
-  new : (posix store (Symlink text path)).store ≡ with_names store here.backend (with_new_link (names_at store here.backend) here.directory name text)
+  new : (posix version store (Symlink text path)).store ≡ with_names store here.backend (with_new_link (names_at store here.backend) here.directory name text)
 
 no_slash : (text : List ℕ) (slash : Bool) → slash_fault (change.Addlink text) slash ≡ None → slash ≡ false
 no_slash text true h = cc
 no_slash text false h = refl
 
-symlink_made : (store : Store) (text path : List ℕ) → (posix store (Symlink text path)).reply ≡ Done → MadeLinkText store text path
-symlink_made store text path h =
-    let (fault, done) = unless_done store (text_fault text) (changes (change.Addlink text) path) h in
-    let (here, name, names, slash) = change_done store (change.Addlink text) path done in
+symlink_made : (version : ℕ) (store : Store) (text path : List ℕ) → (posix version store (Symlink text path)).reply ≡ Done → MadeLinkText version store text path
+symlink_made version store text path h =
+    let (fault, done) = unless_done store (text_fault text) (changes (change.Addlink text) (path_at version Cwd path)) h in
+    let (here, name, names, slash) = change_done version store (change.Addlink text) path done in
     let tree : Tree = names_at store here.backend in
-    let at : posix store (Symlink text path) ≡ after_names store here.backend (nstep tree (Addlink here.directory name text)) =
-    ap (λ (f : Option Errno). at_once store (unless_fault f (changes (change.Addlink text) path))) fault ∙ change_at store (change.Addlink text) path here name names slash in
+    let at : posix version store (Symlink text path) ≡ after_names store here.backend (nstep tree (Addlink here.directory name text)) =
+    ap (λ (f : Option Errno). at_once store (unless_fault f (changes (change.Addlink text) (path_at version Cwd path)))) fault ∙ change_at version store (change.Addlink text) path here name names slash in
     let (directory, there, absent, outcome) = makes_in store here.backend tree (dir_at tree here.directory) name (outcome_of (with_new_link tree here.directory name text) (MadeLink (length tree))) (addlink_outcome_at tree here.directory name text) refl (λ node. refl) (ap (λ (o : CallOutcome). o.reply) (sym at) ∙ h) in
     record {
       here = here;
@@ -213,12 +214,12 @@ symlink_made store text path h =
       new = ap (λ (o : CallOutcome). o.store) at ∙ ap (λ (o : NamesOutcome). (after_names store here.backend o).store) outcome;
     }
 
-pub symlink_makes : (store : Store) (text path : List ℕ) → (posix store (Symlink text path)).reply ≡ Done → EntryChanged store (posix store (Symlink text path)).store path (λ old new id name. (link : ℕ) × LeafMade old new id name (Link link text))
-symlink_makes store text path h =
-    let m = symlink_made store text path h in
+pub symlink_makes : (version : ℕ) (store : Store) (text path : List ℕ) → (posix version store (Symlink text path)).reply ≡ Done → EntryChanged version store (posix version store (Symlink text path)).store path (λ old new id name. (link : ℕ) × LeafMade old new id name (Link link text))
+symlink_makes version store text path h =
+    let m = symlink_made version store text path h in
     let tree : Tree = names_at store m.here.backend in
     let new_tree : Tree = with_new_link tree m.here.directory m.name text in
-    let names : names_at (posix store (Symlink text path)).store m.here.backend ≡ new_tree = ap (λ (s : Store). names_at s m.here.backend) m.new ∙ names_here store m.here.backend new_tree m.here.directory m.directory m.there in
+    let names : names_at (posix version store (Symlink text path)).store m.here.backend ≡ new_tree = ap (λ (s : Store). names_at s m.here.backend) m.new ∙ names_here store m.here.backend new_tree m.here.directory m.directory m.there in
     record {
       here = m.here;
       name = m.name;
@@ -231,27 +232,27 @@ symlink_makes store text path h =
 link_end : (links : ℕ) (id : ℕ) (text : List ℕ) (here : Spot) (slash : Bool) (resolves : Way → Result End Errno) → slash ≡ false → end_of_course (course Stays (Some (Link id text)) [] slash links here) resolves ≡ Ok (LinkText text)
 link_end links id text here slash resolves e = ap (λ (s : Bool). end_of_course (course Stays (Some (Link id text)) [] s links here) resolves) e
 
-pub symlink_then_readlink : (store : Store) (text path : List ℕ) → (posix store (Symlink text path)).reply ≡ Done → LinkIsThere store text path
-symlink_then_readlink store text path h =
-    let m = symlink_made store text path h in
+pub symlink_then_readlink : (version : ℕ) (store : Store) (text path : List ℕ) → (posix version store (Symlink text path)).reply ≡ Done → LinkIsThere version store text path
+symlink_then_readlink version store text path h =
+    let m = symlink_made version store text path h in
     let tree : Tree = names_at store m.here.backend in
     let link : Node = Link (length tree) text in
     let new : Store = with_names store m.here.backend (with_new_link tree m.here.directory m.name text) in
     let more : Extends store new = store_grown tree m.here.directory m.name link None m.directory m.there m.absent store m.here.backend refl in
-    let names : NamesEntry new path m.here m.name = names_still store new path m.here m.name more m.names in
+    let names : NamesEntry version new path m.here m.name = names_still version store new path m.here m.name more m.names in
     let there : node_of new m.here m.name ≡ Some link =
     ap (λ (t : Tree). node_at t m.here.directory m.name) (names_here store m.here.backend (with_new_link tree m.here.directory m.name text) m.here.directory m.directory m.there) ∙ grown_here tree m.here.directory m.name link None m.directory m.there m.absent in
-    let end = entry_end new Stays path m.here m.name names in
-    let at_end : path_end new Stays path ≡ Ok (LinkText text) =
+    let end = entry_end version new Stays path m.here m.name names in
+    let at_end : path_end version new Stays path ≡ Ok (LinkText text) =
     end ∙ ap (λ (n : Option Node). end_of_course (course Stays n [] (slash_of path) names.links m.here) (λ w. resolve new names.left w.rest Stays w.slash w.links w.spot)) there
     ∙ link_end names.links (length tree) text m.here (slash_of path) _ m.slash in
     record {
       readlink =
-          ap (λ (s : Store). (posix s (Readlink path)).reply) m.new
-          ∙ ap (λ (o : CallOutcome). o.reply) (whole_at new Stays path text_plan m.names.walked)
+          ap (λ (s : Store). (posix version s (Readlink path)).reply) m.new
+          ∙ ap (λ (o : CallOutcome). o.reply) (whole_at version new Stays path text_plan m.names.walked)
           ∙ ap (λ (e : Result End Errno). (at_once new (text_plan e)).reply) at_end;
       lstat =
-          ap (λ (s : Store). (posix s (Lstat path)).reply) m.new
-          ∙ ap (λ (o : CallOutcome). o.reply) (whole_at new Stays path status_plan m.names.walked)
+          ap (λ (s : Store). (posix version s (Lstat path)).reply) m.new
+          ∙ ap (λ (o : CallOutcome). o.reply) (whole_at version new Stays path status_plan m.names.walked)
           ∙ ap (λ (e : Result End Errno). (at_once new (status_plan e)).reply) at_end;
     }

@@ -1,4 +1,8 @@
 -- The number that `open` and `dup` give.
+use Rattle.path_walk.specs.Calls.{path_at}
+use Rattle.path_walk.specs.declared.call.Base.{Base}
+use Rattle.path_walk.specs.declared.call.Base.TheVariants.{Cwd}
+use Rattle.path_walk.specs.declared.act.PathAt.{PathAt}
 use Rattle.std.proofs.Common.{◌≡◌, ℕ, zero, suc, Bool, true, false, if◌then◌else◌, List, Option, None, Some, Result, Ok, Err, sym, ap}
 use Rattle.wf_core.specs.declared.errno.Errno.{Errno}
 use Rattle.wf_core.specs.declared.errno.Errno.TheVariants.{Enoent, Eloop, Enotdir, Enametoolong, Ebadf}
@@ -27,10 +31,10 @@ use Rattle.path_walk.specs.declared.step.StepAnswer.{StepAnswer}
 use Rattle.path_walk.specs.declared.step.StepAnswer.TheVariants.{Answered, Cancelled, Closed}
 use Rattle.path_walk.specs.declared.call.Reply.TheVariants as reply
 use Rattle.path_walk.specs.Store.{Store, cstep}
-use Rattle.path_walk.specs.PathMeaning.{path_start, resolve, root_of, spot_beside, start_of, station}
+use Rattle.path_walk.specs.PathMeaning.{resolve, root_of, spot_beside, start_of, station, start_in}
 use Rattle.path_walk.specs.Walk.{node_in}
-use Rattle.path_walk.specs.Plans.{Plan, replies, steps, walks, at_once, fault_in, unless_fault}
-use Rattle.path_walk.specs.OpenPlan.{absent_fault, added_plan, attached_by, attached_plan, description_in, directory_fault, drops, file_fault, file_in, fills, flags_fault, follows, found_plan, link_fault, looked_plan, looks, made_by, made_plan, meant_plan, open_end, open_route, open_walks_max, opens_along, opens_by, opens_directory, opens_file, request_of, reserved_plan, route_to, unless_drops, unlinked_plan, unmakes}
+use Rattle.path_walk.specs.Plans.{Plan, replies, steps, walks, at_once, fault_in, unless_fault, from_base, op_of_base, spot_in}
+use Rattle.path_walk.specs.OpenPlan.{absent_fault, added_plan, attached_by, attached_plan, description_in, directory_fault, drops, file_fault, file_in, fills, flags_fault, follows, found_plan, link_fault, looked_plan, looks, made_by, made_plan, meant_plan, open_end, open_route, open_walks_max, opens_along, opens_by, opens_directory, opens_file, request_of, reserved_plan, route_to, unless_drops, unlinked_plan, unmakes, opens_in}
 use Rattle.call_laws.specs.OpenLaws.{NumbersAreLowest}
 use Rattle.call_laws.proofs.SharingLemmas.{after_numbers}
 
@@ -132,18 +136,26 @@ unfolding opens_along
 along_gives zero request from route = drops_give request.number Eloop
 along_gives (suc walks_left) request from route = walk_gives request.number from route.route (open_end (opens_along walks_left) request route.name) (λ end. end_gives (opens_along walks_left) (along_gives walks_left) request route.name end)
 
-by_gives : (number : ℕ) (flags : OpenFlags) (route : Result OpenRoute Errno) → Gives number (opens_by number flags route)
-by_gives number flags (Err error) = drops_give number error
-by_gives number flags (Ok route) = along_gives open_walks_max (request_of number flags route.route.slash) path_start route
+in_gives : (request : OpenRequest) (route : OpenRoute) (start : Result Spot Errno) → Gives request.number (opens_in request route start)
+in_gives request route (Ok spot) = along_gives open_walks_max request (start_in spot) route
+in_gives request route (Err error) = drops_give request.number error
+
+from_gives : (number : ℕ) (origin : Option Base) (next : Result Spot Errno → Plan) → ((start : Result Spot Errno) → Gives number (next start)) → Gives number (from_base origin next)
+from_gives number None next each = each (Ok (root_of 0))
+from_gives number (Some base) next each = step_gives number DescriptorsCell (DescriptorsOp (op_of_base base)) _ (λ told. each (spot_in told))
+
+by_gives : (number : ℕ) (flags : OpenFlags) (origin : Option Base) (route : Result OpenRoute Errno) → Gives number (opens_by number flags origin route)
+by_gives number flags origin (Err error) = drops_give number error
+by_gives number flags origin (Ok route) = from_gives number origin (opens_in (request_of number flags route.route.slash) route) (in_gives (request_of number flags route.route.slash) route)
 
 module _ (store : Store) where
-  reserved_gives : (flags : OpenFlags) (route : Result OpenRoute Errno) (free : Option ℕ) (given : ℕ) → (at_once (record store { descriptors = (place_outcome store.descriptors slot.Reserved free).map }) (reserved_plan flags route (Answered (DescriptorsAnswer (place_outcome store.descriptors slot.Reserved free).answer)))).reply ≡ reply.Fd given → free ≡ Some given
-  reserved_gives flags route None given e = cc
-  reserved_gives flags route (Some number) given e = ap (λ (n : ℕ). Some n) (sym ((by_gives number flags route).only _ given e))
+  reserved_gives : (flags : OpenFlags) (origin : Option Base) (route : Result OpenRoute Errno) (free : Option ℕ) (given : ℕ) → (at_once (record store { descriptors = (place_outcome store.descriptors slot.Reserved free).map }) (reserved_plan flags origin route (Answered (DescriptorsAnswer (place_outcome store.descriptors slot.Reserved free).answer)))).reply ≡ reply.Fd given → free ≡ Some given
+  reserved_gives flags origin route None given e = cc
+  reserved_gives flags origin route (Some number) given e = ap (λ (n : ℕ). Some n) (sym ((by_gives number flags origin route).only _ given e))
 
-  opens_lowest : (path : List ℕ) (flags : OpenFlags) (fault : Option Errno) (given : ℕ) → (at_once store (unless_fault fault (steps DescriptorsCell (DescriptorsOp Reserve) (reserved_plan flags (open_route path))))).reply ≡ reply.Fd given → lowest_free store.descriptors ≡ Some given
-  opens_lowest path flags (Some error) given e = cc
-  opens_lowest path flags None given e = reserved_gives flags (open_route path) (lowest_free store.descriptors) given e
+  opens_lowest : (at : PathAt) (flags : OpenFlags) (fault : Option Errno) (given : ℕ) → (at_once store (unless_fault fault (steps DescriptorsCell (DescriptorsOp Reserve) (reserved_plan flags at.base (open_route at.path))))).reply ≡ reply.Fd given → lowest_free store.descriptors ≡ Some given
+  opens_lowest at flags (Some error) given e = cc
+  opens_lowest at flags None given e = reserved_gives flags at.base (open_route at.path) (lowest_free store.descriptors) given e
 
   copy_gives : (number : ℕ) (named : Bool) (free : Option ℕ) (copy : ℕ) → (after_numbers store (if named then place_outcome store.descriptors (slot_at store.descriptors number) free else outcome_of store.descriptors (fd_answer.Fault Ebadf))).reply ≡ reply.Fd copy → free ≡ Some copy
   copy_gives number true None copy e = cc
@@ -152,6 +164,7 @@ module _ (store : Store) where
 
 pub numbers_are_lowest : NumbersAreLowest
 numbers_are_lowest = record {
-  opens = λ store path flags number e. opens_lowest store path flags (flags_fault flags) number e;
-  dup = λ store number copy e. copy_gives store number (is_named (slot_at store.descriptors number)) (lowest_free store.descriptors) copy e;
+  opens = λ version store path flags number e. opens_lowest store (path_at version Cwd path) flags (flags_fault flags) number e;
+  openat = λ version store base path flags given e. opens_lowest store (path_at version base path) flags (flags_fault flags) given e;
+  dup = λ version store number copy e. copy_gives store number (is_named (slot_at store.descriptors number)) (lowest_free store.descriptors) copy e;
 }

@@ -1,4 +1,9 @@
 -- An `open` that replies an error leaves the store as it was, with its number free again.
+use Rattle.file_store.specs.declared.descriptor_operation.FdOp.TheVariants as fd
+use Rattle.call_laws.specs.Entries.{current_spot}
+use Rattle.path_walk.specs.declared.call.Base.{Base}
+use Rattle.path_walk.specs.declared.call.Base.TheVariants.{Cwd, Fd}
+use Rattle.path_walk.specs.declared.act.PathAt.{PathAt}
 use Rattle.std.proofs.Common.{arith, ◌≡◌, ℕ, ◌%◌, zero, suc, Bool, true, false, if◌then◌else◌, List, [], ◌∷◌, Option, None, Some, Result, Ok, Err, slice_get, slice_set, unwrap_or, get_or, length, ◌<◌, refl, sym, ap, subst, ◌∙◌}
 use Rattle.std.proofs.lemmas.List.Quantifiers.{position-Some}
 use Rattle.wf_core.specs.Limits.{group_count}
@@ -10,7 +15,7 @@ use Rattle.name_store.specs.NameTrees.{Tree, Listing, NamesOutcome, dir_at, entr
 use Rattle.file_store.specs.declared.descriptor_operation.Slot.{Slot}
 use Rattle.file_store.specs.declared.descriptor_operation.Slot.TheVariants as slot
 use Rattle.file_store.specs.declared.descriptor_operation.FdOp.TheVariants.{FillFile, FillDir, Reserve}
-use Rattle.file_store.specs.DescriptorMap.{Map, slot_at, is_free, lowest_free, place_outcome, fill_outcome}
+use Rattle.file_store.specs.DescriptorMap.{with_slot, Map, slot_at, is_free, lowest_free, place_outcome, fill_outcome, dstep}
 use Rattle.file_store.specs.declared.file.File.{File as FileRow}
 use Rattle.file_store.specs.declared.file_operation.FileOp.TheVariants.{Make}
 use Rattle.file_store.specs.declared.file_operation.FileAnswer.TheVariants as file_answer
@@ -28,11 +33,11 @@ use Rattle.path_walk.specs.declared.step.StoreAnswer.TheVariants.{Names as Names
 use Rattle.path_walk.specs.declared.step.StepAnswer.TheVariants.{Answered}
 use Rattle.path_walk.specs.declared.call.Reply.TheVariants as reply
 use Rattle.path_walk.specs.Store.{Store, group_at, names_at, with_group, with_names}
-use Rattle.path_walk.specs.PathMeaning.{station, path_start, resolve, root_of, spot_beside, start_of}
+use Rattle.path_walk.specs.PathMeaning.{station, resolve, root_of, spot_beside, start_of, start_in}
 use Rattle.path_walk.specs.Programs.{CallOutcome}
 use Rattle.path_walk.specs.Walk.{node_in}
-use Rattle.path_walk.specs.Plans.{Plan, replies, steps, at_once, fault_in, unless_fault}
-use Rattle.path_walk.specs.OpenPlan.{flags_fault, directory_fault, file_fault, link_fault, absent_fault, mode_of, open_route, route_to, drops, unless_drops, fills, opens_directory, attached_plan, opens_file, follows, found_plan, added_plan, makes, looked_plan, looks, open_end, open_walks_max, opens_along, request_of, opens_by, reserved_plan, opens}
+use Rattle.path_walk.specs.Plans.{Plan, replies, steps, at_once, fault_in, unless_fault, from_base, spot_in}
+use Rattle.path_walk.specs.OpenPlan.{flags_fault, directory_fault, file_fault, link_fault, absent_fault, mode_of, open_route, route_to, drops, unless_drops, fills, opens_directory, attached_plan, opens_file, follows, found_plan, added_plan, makes, looked_plan, looks, open_end, open_walks_max, opens_along, request_of, opens_by, reserved_plan, opens, opens_in}
 use Rattle.path_walk.proofs.Leads.{same_names}
 use Rattle.call_laws.proofs.StoreLemmas.{names_grouped, same_group}
 use Rattle.call_laws.proofs.FileErrors.{Same}
@@ -56,19 +61,19 @@ is_free_slot slot.Reserved h = cc
 is_free_slot (slot.File backend description) h = cc
 is_free_slot (slot.Dir backend directory) h = cc
 
-get_within : (map : Map) (i : ℕ) → i < length map → slice_get map i ≡ Some (get_or map i slot.Free)
+get_within : (map : List Slot) (i : ℕ) → i < length map → slice_get map i ≡ Some (get_or map i slot.Free)
 get_within [] i h = absurd (omega (arith, h))
 get_within (x ∷ map) zero h = refl
 get_within (x ∷ map) (suc i) h = get_within map i (omega (arith, h))
 
-pub lowest_is_free : (map : Map) (number : ℕ) → lowest_free map ≡ Some number → slice_get map number ≡ Some slot.Free
+pub lowest_is_free : (map : Map) (number : ℕ) → lowest_free map ≡ Some number → slice_get map.slots number ≡ Some slot.Free
 lowest_is_free map number h =
-    let found = position-Some is_free map number slot.Free h in
-    get_within map number found.0 ∙ ap (λ (s : Slot). Some s) (is_free_slot (get_or map number slot.Free) found.1)
+    let found = position-Some is_free map.slots number slot.Free h in
+    get_within map.slots number found.0 ∙ ap (λ (s : Slot). Some s) (is_free_slot (get_or map.slots number slot.Free) found.1)
 
 -- the store in which a number is reserved
 abbrev pub held : Store → ℕ → Store
-held base number = record base { descriptors = slice_set base.descriptors number slot.Reserved }
+held base number = record base { descriptors = with_slot base.descriptors number slot.Reserved }
 
 -- with that number reserved, a plan that replies an error leaves the store as it was before
 abbrev Back : Store → ℕ → Plan → Type 0
@@ -87,12 +92,12 @@ fills_file_never store number backend description error e = filled_never store n
 fills_dir_never : (store : Store) (number backend directory : ℕ) (error : Errno) → (at_once store (fills number (FillDir number backend directory))).reply ≡ reply.Fault error → ⊥
 fills_dir_never store number backend directory error e = filled_never store number (slot.Dir backend directory) (slot_at store.descriptors number) error e
 
-module _ (base : Store) (number : ℕ) (free : slice_get base.descriptors number ≡ Some slot.Free) where
+module _ (base : Store) (number : ℕ) (free : slice_get base.descriptors.slots number ≡ Some slot.Free) where
   pub drops_back : (error : Errno) → (at_once (held base number) (drops number error)).store ≡ base
   drops_back error =
-      let map : Map = slice_set base.descriptors number slot.Reserved in
-      ap (λ (named : Slot). let s : Store = record (held base number) { descriptors = (fill_outcome map number slot.Free named).map } in s) (ap (λ (found : Option Slot). unwrap_or found slot.Free) (set_here base.descriptors number slot.Free slot.Reserved free))
-      ∙ ap (λ (m : Map). let s : Store = record base { descriptors = m } in s) (set_back base.descriptors number slot.Free slot.Reserved free)
+      let map : Map = with_slot base.descriptors number slot.Reserved in
+      ap (λ (named : Slot). let s : Store = record (held base number) { descriptors = (fill_outcome map number slot.Free named).map } in s) (ap (λ (found : Option Slot). unwrap_or found slot.Free) (set_here base.descriptors.slots number slot.Free slot.Reserved free))
+      ∙ ap (λ (m : Map). let s : Store = record base { descriptors = m } in s) (ap (λ (slots : List Slot). let m : Map = record { slots = slots; current = base.descriptors.current } in m) (set_back base.descriptors.slots number slot.Free slot.Reserved free))
 
   dropped : (error : Errno) → Back base number (drops number error)
   dropped error given e = drops_back error
@@ -120,10 +125,10 @@ module _ (base : Store) (number : ℕ) (free : slice_get base.descriptors number
   asked_back : (backend : ℕ) (p : Plan) → Back base number p → Same base (at_once (with_names (held base number) backend (names_at (held base number) backend)) p)
   asked_back backend p h = subst (λ (s : Store). Same base (at_once s p)) (sym (same_names (held base number) backend)) h
 
-directory_back : (base : Store) (request : OpenRequest) → slice_get base.descriptors request.number ≡ Some slot.Free → (there : Spot) → Back base request.number (opens_directory request there)
+directory_back : (base : Store) (request : OpenRequest) → slice_get base.descriptors.slots request.number ≡ Some slot.Free → (there : Spot) → Back base request.number (opens_directory request there)
 directory_back base request free there = unless_back base request.number free (directory_fault request.flags) _ (fills_dir_back base request.number free there.backend there.directory)
 
-file_back : (base : Store) (request : OpenRequest) → slice_get base.descriptors request.number ≡ Some slot.Free → (backend file : ℕ) → Back base request.number (opens_file request backend file)
+file_back : (base : Store) (request : OpenRequest) → slice_get base.descriptors.slots request.number ≡ Some slot.Free → (backend file : ℕ) → Back base request.number (opens_file request backend file)
 file_back base request free backend file =
     unless_back base request.number free (file_fault request.flags request.slash) _
     (attach_back base request.number free backend (file % group_count) file request.flags (file_at (group_at (held base request.number) backend (file % group_count)) file))
@@ -133,12 +138,12 @@ file_back base request free backend file =
 some_is : {X : Type 0} (x y : X) → Some x ≡ Some y → x ≡ y
 some_is x y e = cc
 
-module _ (base : Store) (follow : OpenRequest → Station → OpenRoute → Plan) (on : (request : OpenRequest) (from : Station) (route : OpenRoute) → slice_get base.descriptors request.number ≡ Some slot.Free → Back base request.number (follow request from route)) where
-  follows_back : (links : ℕ) (request : OpenRequest) → slice_get base.descriptors request.number ≡ Some slot.Free → (names : ℕ) (here : Spot) (text : List ℕ) → Back base request.number (follows follow links request names here text)
+module _ (base : Store) (follow : OpenRequest → Station → OpenRoute → Plan) (on : (request : OpenRequest) (from : Station) (route : OpenRoute) → slice_get base.descriptors.slots request.number ≡ Some slot.Free → Back base request.number (follow request from route)) where
+  follows_back : (links : ℕ) (request : OpenRequest) → slice_get base.descriptors.slots request.number ≡ Some slot.Free → (names : ℕ) (here : Spot) (text : List ℕ) → Back base request.number (follows follow links request names here text)
   follows_back zero request free names here text = dropped base request.number free Eloop
   follows_back (suc links) request free names here text = on _ (station names links (start_of text here)) (route_to text) free
 
-  found_back : (request : OpenRequest) → slice_get base.descriptors request.number ≡ Some slot.Free → (here : Station) (node : Node) → Back base request.number (found_plan follow request here node)
+  found_back : (request : OpenRequest) → slice_get base.descriptors.slots request.number ≡ Some slot.Free → (here : Station) (node : Node) → Back base request.number (found_plan follow request here node)
   found_back request free here (Dir id) = directory_back base request free (spot_beside here.spot id)
   found_back request free here (Mount backend) = directory_back base request free (root_of backend)
   found_back request free here (FileNode file) = file_back base request free here.spot.backend file
@@ -168,7 +173,7 @@ module _ (base : Store) (follow : OpenRequest → Station → OpenRoute → Plan
       let same : tree ≡ names_at base here.spot.backend = names_grouped before here.spot.backend number after here.spot.backend in
       absurd (adding_never store tree request here name group.files.next group.descriptions.next error (dir_at tree here.spot.directory) directory (ap (λ (t : Tree). dir_at t here.spot.directory) same ∙ is) absent e)
 
-  module _ (request : OpenRequest) (free : slice_get base.descriptors request.number ≡ Some slot.Free) (here : Station) (name : List ℕ) where
+  module _ (request : OpenRequest) (free : slice_get base.descriptors.slots request.number ≡ Some slot.Free) (here : Station) (name : List ℕ) where
     abbrev after_looking : NamesOutcome → CallOutcome
     after_looking outcome = at_once (with_names (held base request.number) here.spot.backend outcome.tree) (looked_plan follow request here name (node_in (Answered (NamesAnswer outcome.answer))))
 
@@ -180,18 +185,18 @@ module _ (base : Store) (follow : OpenRequest → Station → OpenRoute → Plan
     look_back None is = asked_back base request.number free here.spot.backend (drops request.number Enoent) (dropped base request.number free Enoent)
     look_back (Some directory) is = node_back directory (entry_at directory name) is refl
 
-  looks_back : (request : OpenRequest) → slice_get base.descriptors request.number ≡ Some slot.Free → (names links : ℕ) (here : Spot) (name : List ℕ) → Back base request.number (looks follow request names links here name)
+  looks_back : (request : OpenRequest) → slice_get base.descriptors.slots request.number ≡ Some slot.Free → (names links : ℕ) (here : Spot) (name : List ℕ) → Back base request.number (looks follow request names links here name)
   looks_back request free zero links here name = dropped base request.number free Enametoolong
   looks_back request free (suc names) links here name = look_back request free (station names links here) name (dir_at (names_at base here.backend) here.directory) refl
 
-  end_back : (request : OpenRequest) → slice_get base.descriptors request.number ≡ Some slot.Free → (name : Option (List ℕ)) (end : Result End Errno) → Back base request.number (open_end follow request name end)
+  end_back : (request : OpenRequest) → slice_get base.descriptors.slots request.number ≡ Some slot.Free → (name : Option (List ℕ)) (end : Result End Errno) → Back base request.number (open_end follow request name end)
   end_back request free name (Err error) = dropped base request.number free error
   end_back request free None (Ok (Directory there)) = directory_back base request free there.spot
   end_back request free (Some name) (Ok (Directory there)) = looks_back request free there.names there.links there.spot name
   end_back request free name (Ok (File backend file)) = dropped base request.number free Enotdir
   end_back request free name (Ok (LinkText text)) = dropped base request.number free Enotdir
 
-along_back : (walks_left : ℕ) (base : Store) (request : OpenRequest) (from : Station) (route : OpenRoute) → slice_get base.descriptors request.number ≡ Some slot.Free → Back base request.number (opens_along walks_left request from route)
+along_back : (walks_left : ℕ) (base : Store) (request : OpenRequest) (from : Station) (route : OpenRoute) → slice_get base.descriptors.slots request.number ≡ Some slot.Free → Back base request.number (opens_along walks_left request from route)
 unfolding opens_along
 along_back zero base request from route free = dropped base request.number free Eloop
 along_back (suc walks_left) base request from route free =
@@ -200,17 +205,26 @@ along_back (suc walks_left) base request from route free =
 
 -- The call.
 
-by_back : (base : Store) (number : ℕ) → slice_get base.descriptors number ≡ Some slot.Free → (flags : OpenFlags) (route : Result OpenRoute Errno) → Back base number (opens_by number flags route)
-by_back base number free flags (Err error) = dropped base number free error
-by_back base number free flags (Ok route) = along_back open_walks_max base (request_of number flags route.route.slash) path_start route free
+in_back : (base : Store) (request : OpenRequest) (route : OpenRoute) → slice_get base.descriptors.slots request.number ≡ Some slot.Free → (start : Result Spot Errno) → Back base request.number (opens_in request route start)
+in_back base request route free (Ok spot) = along_back open_walks_max base request (start_in spot) route free
+in_back base request route free (Err error) = dropped base request.number free error
 
-reserved_same : (store : Store) (flags : OpenFlags) (route : Result OpenRoute Errno) (free : Option ℕ) → lowest_free store.descriptors ≡ free → Same store (at_once (record store { descriptors = (place_outcome store.descriptors slot.Reserved free).map }) (reserved_plan flags route (Answered (DescriptorsAnswer (place_outcome store.descriptors slot.Reserved free).answer))))
-reserved_same store flags route None is error e = refl
-reserved_same store flags route (Some number) is error e = by_back store number (lowest_is_free store.descriptors number is) flags route error e
+from_back : (base : Store) (number : ℕ) (origin : Option Base) (next : Result Spot Errno → Plan) → ((start : Result Spot Errno) → Back base number (next start)) → Back base number (from_base origin next)
+from_back base number None next each = each (Ok (root_of 0))
+from_back base number (Some Cwd) next each = each (Ok (current_spot base))
+from_back base number (Some (Fd given)) next each = each (spot_in (Answered (DescriptorsAnswer (dstep (held base number).descriptors (fd.Look given)).answer)))
 
-opens_if : (store : Store) (path : List ℕ) (flags : OpenFlags) (fault : Option Errno) → Same store (at_once store (unless_fault fault (steps DescriptorsCell (DescriptorsOp Reserve) (reserved_plan flags (open_route path)))))
-opens_if store path flags (Some given) error e = refl
-opens_if store path flags None error e = reserved_same store flags (open_route path) (lowest_free store.descriptors) refl error e
+by_back : (base : Store) (number : ℕ) → slice_get base.descriptors.slots number ≡ Some slot.Free → (flags : OpenFlags) (origin : Option Base) (route : Result OpenRoute Errno) → Back base number (opens_by number flags origin route)
+by_back base number free flags origin (Err error) = dropped base number free error
+by_back base number free flags origin (Ok route) = from_back base number origin (opens_in (request_of number flags route.route.slash) route) (in_back base (request_of number flags route.route.slash) route free)
 
-pub opens_same : (store : Store) (path : List ℕ) (flags : OpenFlags) → Same store (at_once store (opens path flags))
-opens_same store path flags = opens_if store path flags (flags_fault flags)
+reserved_same : (store : Store) (flags : OpenFlags) (origin : Option Base) (route : Result OpenRoute Errno) (free : Option ℕ) → lowest_free store.descriptors ≡ free → Same store (at_once (record store { descriptors = (place_outcome store.descriptors slot.Reserved free).map }) (reserved_plan flags origin route (Answered (DescriptorsAnswer (place_outcome store.descriptors slot.Reserved free).answer))))
+reserved_same store flags origin route None is error e = refl
+reserved_same store flags origin route (Some number) is error e = by_back store number (lowest_is_free store.descriptors number is) flags origin route error e
+
+opens_if : (store : Store) (at : PathAt) (flags : OpenFlags) (fault : Option Errno) → Same store (at_once store (unless_fault fault (steps DescriptorsCell (DescriptorsOp Reserve) (reserved_plan flags at.base (open_route at.path)))))
+opens_if store at flags (Some given) error e = refl
+opens_if store at flags None error e = reserved_same store flags at.base (open_route at.path) (lowest_free store.descriptors) refl error e
+
+pub opens_same : (store : Store) (at : PathAt) (flags : OpenFlags) → Same store (at_once store (opens at flags))
+opens_same store at flags = opens_if store at flags (flags_fault flags)

@@ -1,5 +1,5 @@
 -- What is there after an `open`.
-use Rattle.std.proofs.Common.{◌≡◌, ℕ, ◌%◌, ◌&&◌, not, Bool, true, false, if◌then◌else◌, List, Option, None, Some, slice_get, slice_set, unwrap_or, refl, sym, ap, subst, ◌∙◌}
+use Rattle.std.proofs.Common.{◌≡◌, ℕ, ◌%◌, ◌&&◌, not, Bool, true, false, if◌then◌else◌, List, Option, None, Some, slice_get, unwrap_or, refl, sym, ap, subst, ◌∙◌}
 use Rattle.wf_core.specs.Limits.{group_count, symloop_max}
 use Rattle.wf_core.specs.declared.errno.Errno.{Errno}
 use Rattle.wf_core.specs.declared.errno.Errno.TheVariants.{Enoent}
@@ -10,7 +10,7 @@ use Rattle.name_store.specs.EntryLaws.{LeafMade}
 use Rattle.name_store.proofs.EntryLemmas.{addfile_enters}
 use Rattle.file_store.specs.declared.descriptor_operation.Slot.{Slot}
 use Rattle.file_store.specs.declared.descriptor_operation.Slot.TheVariants as slot
-use Rattle.file_store.specs.DescriptorMap.{slot_at}
+use Rattle.file_store.specs.DescriptorMap.{with_slot, slot_at}
 use Rattle.file_store.specs.declared.file.File.{File}
 use Rattle.file_store.specs.declared.file_operation.FileOp.TheVariants.{Make}
 use Rattle.file_store.specs.FileGroups.{Group, FilesOutcome, description_at, empty_file, file_at, fstep}
@@ -35,11 +35,11 @@ use Rattle.call_laws.proofs.OpenErrors.{held, lowest_is_free, set_here}
 use Rattle.call_laws.proofs.OpenLemmas.{added_is, at_entry, attach_is, attached, directory_opened, file_made, file_opened}
 
 -- the number names what it was filled with
-number_names : (store : Store) (number : ℕ) (new : Slot) → slice_get store.descriptors number ≡ Some slot.Free → slot_at (slice_set store.descriptors number new) number ≡ new
-number_names store number new free = ap (λ (found : Option Slot). unwrap_or found slot.Free) (set_here store.descriptors number slot.Free new free)
+number_names : (store : Store) (number : ℕ) (new : Slot) → slice_get store.descriptors.slots number ≡ Some slot.Free → slot_at (with_slot store.descriptors number new) number ≡ new
+number_names store number new free = ap (λ (found : Option Slot). unwrap_or found slot.Free) (set_here store.descriptors.slots number slot.Free new free)
 
-module _ (store : Store) (path : List ℕ) (flags : OpenFlags) (number : ℕ) (here : Spot) (name : List ℕ) where
-  module _ (file : ℕ) (was : File) (reached : ReachesEntry store path flags number here name (Some (FileNode file))) (fault : file_fault flags (slash_of path) ≡ None) (has : HasGroup store here.backend (file % group_count)) (there : file_at (group_at store here.backend (file % group_count)) file ≡ Some was) (linked : was.linked ≡ true) where
+module _ (version : ℕ) (store : Store) (path : List ℕ) (flags : OpenFlags) (number : ℕ) (here : Spot) (name : List ℕ) where
+  module _ (file : ℕ) (was : File) (reached : ReachesEntry version store path flags number here name (Some (FileNode file))) (fault : file_fault flags (slash_of path) ≡ None) (has : HasGroup store here.backend (file % group_count)) (there : file_at (group_at store here.backend (file % group_count)) file ≡ Some was) (linked : was.linked ≡ true) where
     abbrev backend : ℕ
     backend = here.backend
 
@@ -55,12 +55,12 @@ module _ (store : Store) (path : List ℕ) (flags : OpenFlags) (number : ℕ) (h
     abbrev left : Store
     left = with_opened store backend place (after flags.trunc) number group.descriptions.next
 
-    free : slice_get store.descriptors number ≡ Some slot.Free
+    free : slice_get store.descriptors.slots number ≡ Some slot.Free
     free = lowest_is_free store.descriptors number reached.lowest
 
-    opens_it : posix store (Open path flags) ≡ replied left (reply.Fd number)
+    opens_it : posix version store (Open path flags) ≡ replied left (reply.Fd number)
     opens_it =
-        at_entry store path flags number here name (Some (FileNode file)) reached
+        at_entry version store path flags number here name (Some (FileNode file)) reached
         ∙ file_opened store flags number (slash_of path) backend file was free fault there linked
 
     group_is : group_at left backend place ≡ after flags.trunc
@@ -86,32 +86,32 @@ module _ (store : Store) (path : List ℕ) (flags : OpenFlags) (number : ℕ) (h
       elsewhere = ap (λ (g : Group). with_opened store backend place g number group.descriptions.next) (sym group_is);
     }
 
-    opens_file_there : OpensFile store path flags number backend file was
+    opens_file_there : OpensFile version store path flags number backend file was
     opens_file_there = record {
       reply = ap (λ (o : CallOutcome). o.reply) opens_it;
       opened = subst (λ (s : Store). FileOpened store s backend number flags file place was) (sym (ap (λ (o : CallOutcome). o.store) opens_it)) is_opened;
     }
 
-  opens_directory_there : (id : ℕ) → ReachesEntry store path flags number here name (Some (Dir id)) → directory_fault flags ≡ None → OpensDirectory store path flags number here.backend id
+  opens_directory_there : (id : ℕ) → ReachesEntry version store path flags number here name (Some (Dir id)) → directory_fault flags ≡ None → OpensDirectory version store path flags number here.backend id
   opens_directory_there id reached fault =
-      at_entry store path flags number here name (Some (Dir id)) reached
+      at_entry version store path flags number here name (Some (Dir id)) reached
       ∙ directory_opened store number (lowest_is_free store.descriptors number reached.lowest) (request_of number flags (slash_of path)) refl (spot_beside here id) fault
 
-  opens_mount : (backend : ℕ) → ReachesEntry store path flags number here name (Some (Mount backend)) → directory_fault flags ≡ None → OpensDirectory store path flags number backend 0
+  opens_mount : (backend : ℕ) → ReachesEntry version store path flags number here name (Some (Mount backend)) → directory_fault flags ≡ None → OpensDirectory version store path flags number backend 0
   opens_mount backend reached fault =
-      at_entry store path flags number here name (Some (Mount backend)) reached
+      at_entry version store path flags number here name (Some (Mount backend)) reached
       ∙ directory_opened store number (lowest_is_free store.descriptors number reached.lowest) (request_of number flags (slash_of path)) refl (root_of backend) fault
 
 pub opens_find : OpensFind
 opens_find = record {
-  file = λ store path flags number here name file was reached fault has there linked. opens_file_there store path flags number here name file was reached fault has there linked;
+  file = λ version store path flags number here name file was reached fault has there linked. opens_file_there version store path flags number here name file was reached fault has there linked;
   directory = opens_directory_there;
   mount = opens_mount;
 }
 
 -- A file that was made.
 
-module _ (store : Store) (path : List ℕ) (flags : OpenFlags) (number : ℕ) (here : Spot) (name : List ℕ) (reached : ReachesEntry store path flags number here name None) (creat : flags.creat ≡ true) (slash : slash_of path ≡ false) (has : HasGroup store here.backend (number % group_count)) where
+module _ (version : ℕ) (store : Store) (path : List ℕ) (flags : OpenFlags) (number : ℕ) (here : Spot) (name : List ℕ) (reached : ReachesEntry version store path flags number here name None) (creat : flags.creat ≡ true) (slash : slash_of path ≡ false) (has : HasGroup store here.backend (number % group_count)) where
   abbrev of_backend : ℕ
   of_backend = here.backend
 
@@ -136,7 +136,7 @@ module _ (store : Store) (path : List ℕ) (flags : OpenFlags) (number : ℕ) (h
   abbrev new : Store
   new = with_names opened_store of_backend entered
 
-  is_free : slice_get store.descriptors number ≡ Some slot.Free
+  is_free : slice_get store.descriptors.slots number ≡ Some slot.Free
   is_free = lowest_is_free store.descriptors number reached.lowest
 
   no_fault : absent_fault flags (slash_of path) ≡ None
@@ -144,9 +144,9 @@ module _ (store : Store) (path : List ℕ) (flags : OpenFlags) (number : ℕ) (h
       ap (λ (b : Bool). let f : Option Errno = if b && not (slash_of path) then None else Some Enoent in f) creat
       ∙ ap (λ (b : Bool). let f : Option Errno = if not b then None else Some Enoent in f) slash
 
-  makes_it : posix store (Open path flags) ≡ replied new (reply.Fd number)
+  makes_it : posix version store (Open path flags) ≡ replied new (reply.Fd number)
   makes_it =
-      at_entry store path flags number here name None reached
+      at_entry version store path flags number here name None reached
       ∙ ap (λ (f : Option Errno). at_once (held store number) (unless_drops number f (makes (opens_along symloop_max) (request_of number flags (slash_of path)) (station reached.entry.left reached.entry.links here) name))) no_fault
       ∙ file_made store (opens_along symloop_max) flags number (slash_of path) (station reached.entry.left reached.entry.links here) name reached.directory is_free reached.there reached.stands
 
@@ -180,11 +180,11 @@ module _ (store : Store) (path : List ℕ) (flags : OpenFlags) (number : ℕ) (h
         ∙ ap (λ (t : Tree). with_names (with_opened store of_backend in_group (group_at new of_backend in_group) number before.descriptions.next) of_backend t) (sym names_are);
   }
 
-  opens_new : OpensNew store path flags number here name
+  opens_new : OpensNew version store path flags number here name
   opens_new = record {
     reply = ap (λ (o : CallOutcome). o.reply) makes_it;
     made = subst (λ (s : Store). FileMade store s here name number flags in_group) (sym (ap (λ (o : CallOutcome). o.store) makes_it)) is_made;
   }
 
 pub opens_make_files : OpensMakeFiles
-opens_make_files store path flags number here name reached creat slash has = opens_new store path flags number here name reached creat slash has
+opens_make_files version store path flags number here name reached creat slash has = opens_new version store path flags number here name reached creat slash has

@@ -1,5 +1,7 @@
 -- What `open` comes to at an entry.
-use Rattle.std.proofs.Common.{◌≡◌, ℕ, ◌%◌, zero, suc, Bool, true, if◌then◌else◌, List, [], ◌∷◌, Option, None, Some, Result, Ok, slice_get, slice_set, unwrap_or, refl, ap, ◌∙◌}
+use Rattle.path_walk.specs.Calls.{path_at}
+use Rattle.path_walk.specs.declared.call.Base.TheVariants.{Cwd}
+use Rattle.std.proofs.Common.{◌≡◌, ℕ, ◌%◌, zero, suc, Bool, true, if◌then◌else◌, List, [], ◌∷◌, Option, None, Some, Result, Ok, slice_get, slice_set, unwrap_or, refl, ap, ◌∙◌, ◌==◌, false, ◌||◌}
 use Rattle.wf_core.specs.Limits.{group_count, path_names_max, symloop_max}
 use Rattle.wf_core.specs.declared.errno.Errno.{Errno}
 use Rattle.name_store.specs.declared.operation.Node.{Node}
@@ -11,7 +13,7 @@ use Rattle.name_store.specs.NameTrees.{Tree, Listing, NamesOutcome, dir_at, entr
 use Rattle.file_store.specs.declared.descriptor_operation.Slot.{Slot}
 use Rattle.file_store.specs.declared.descriptor_operation.Slot.TheVariants as slot
 use Rattle.file_store.specs.declared.descriptor_operation.FdOp.TheVariants.{FillDir, Reserve}
-use Rattle.file_store.specs.DescriptorMap.{DescriptorsOutcome, Map, slot_at, lowest_free, place_outcome, fill_outcome}
+use Rattle.file_store.specs.DescriptorMap.{with_slot, DescriptorsOutcome, Map, slot_at, lowest_free, place_outcome, fill_outcome}
 use Rattle.file_store.specs.declared.file.File.{File}
 use Rattle.file_store.specs.declared.file_operation.Mode.{Mode}
 use Rattle.file_store.specs.declared.file_operation.FileOp.TheVariants.{Make, Attach}
@@ -32,13 +34,13 @@ use Rattle.path_walk.specs.declared.step.StoreAnswer.TheVariants.{Names as Names
 use Rattle.path_walk.specs.declared.step.StepAnswer.TheVariants.{Answered}
 use Rattle.path_walk.specs.declared.call.Reply.TheVariants as reply
 use Rattle.path_walk.specs.Store.{Store, group_at, names_at, with_group, with_names}
-use Rattle.path_walk.specs.Paths.{parts_of, front_of, slash_of, path_fault, parts_before, name_in}
-use Rattle.path_walk.specs.PathMeaning.{station, path_start, resolve, root_of}
+use Rattle.path_walk.specs.Paths.{parts_of, front_of, slash_of, path_fault, parts_before, name_in, is_absolute}
+use Rattle.path_walk.specs.PathMeaning.{station, resolve, root_of, start_in}
 use Rattle.path_walk.specs.Programs.{CallOutcome, replied}
 use Rattle.path_walk.specs.Walk.{node_in}
-use Rattle.path_walk.specs.Plans.{Plan, replies, steps, at_once, cell_of_id, fault_in, ok_unless, unless_fault}
-use Rattle.path_walk.specs.OpenPlan.{flags_fault, directory_fault, file_fault, mode_of, open_route, route_to, unless_drops, fills, opens_directory, attached_plan, opens_file, added_plan, makes, looked_plan, looks, open_end, open_walks_max, opens_along, request_of, opens_by, reserved_plan, opens}
-use Rattle.call_laws.specs.Entries.{NamesEntry, directory_at}
+use Rattle.path_walk.specs.Plans.{Plan, replies, steps, at_once, cell_of_id, fault_in, ok_unless, unless_fault, from_base}
+use Rattle.path_walk.specs.OpenPlan.{flags_fault, directory_fault, file_fault, mode_of, open_route, route_to, unless_drops, fills, opens_directory, attached_plan, opens_file, added_plan, makes, looked_plan, looks, open_end, open_walks_max, opens_along, request_of, opens_by, reserved_plan, opens, opens_in}
+use Rattle.call_laws.specs.Entries.{NamesEntry, directory_at, path_spot, current_spot}
 use Rattle.call_laws.specs.OpenLaws.{ReachesEntry, with_opened}
 use Rattle.path_walk.proofs.Leads.{same_names}
 use Rattle.call_laws.proofs.StoreLemmas.{names_grouped}
@@ -53,23 +55,29 @@ set_twice (x ∷ xs) (suc i) first second = ap (λ (rest : List _). x ∷ rest) 
 
 -- The way to the name.
 
-reserves : (store : Store) (path : List ℕ) (flags : OpenFlags) (number : ℕ) → flags_fault flags ≡ None → lowest_free store.descriptors ≡ Some number → path_fault path ≡ None → at_once store (opens path flags) ≡ at_once (held store number) (opens_along open_walks_max (request_of number flags (slash_of path)) path_start (route_to path))
-reserves store path flags number together lowest walked =
-    ap (λ (fault : Option Errno). at_once store (unless_fault fault (steps DescriptorsCell (DescriptorsOp Reserve) (reserved_plan flags (open_route path))))) together
-    ∙ ap (λ (free : Option ℕ). at_once (record store { descriptors = (place_outcome store.descriptors slot.Reserved free).map }) (reserved_plan flags (open_route path) (Answered (DescriptorsAnswer (place_outcome store.descriptors slot.Reserved free).answer)))) lowest
-    ∙ ap (λ (fault : Option Errno). at_once (held store number) (opens_by number flags (ok_unless fault (route_to path)))) walked
+pub reserves : (version : ℕ) (store : Store) (path : List ℕ) (flags : OpenFlags) (number : ℕ) → flags_fault flags ≡ None → lowest_free store.descriptors ≡ Some number → path_fault path ≡ None → at_once store (opens (path_at version Cwd path) flags) ≡ at_once (held store number) (from_base (path_at version Cwd path).base (opens_in (request_of number flags (slash_of path)) (route_to path)))
+reserves version store path flags number together lowest walked =
+    ap (λ (fault : Option Errno). at_once store (unless_fault fault (steps DescriptorsCell (DescriptorsOp Reserve) (reserved_plan flags (path_at version Cwd path).base (open_route path))))) together
+    ∙ ap (λ (free : Option ℕ). at_once (record store { descriptors = (place_outcome store.descriptors slot.Reserved free).map }) (reserved_plan flags (path_at version Cwd path).base (open_route path) (Answered (DescriptorsAnswer (place_outcome store.descriptors slot.Reserved free).answer)))) lowest
+    ∙ ap (λ (fault : Option Errno). at_once (held store number) (opens_by number flags (path_at version Cwd path).base (ok_unless fault (route_to path)))) walked
 
-to_name : (s : Store) (request : OpenRequest) (path : List ℕ) (here : Spot) (name : List ℕ) (names : NamesEntry s path here name) → at_once s (opens_along open_walks_max request path_start (route_to path)) ≡ at_once s (looks (opens_along symloop_max) request (suc names.left) names.links here name)
+pub starts : (version : ℕ) (s : Store) (path : List ℕ) (request : OpenRequest) (route : OpenRoute) → at_once s (from_base (path_at version Cwd path).base (opens_in request route)) ≡ at_once s (opens_along open_walks_max request (start_in (path_spot version s path)) route)
+starts version s path request route = by_start (version == 1 || is_absolute path) where
+  by_start : (rooted : Bool) → at_once s (from_base (if rooted then None else Some Cwd) (opens_in request route)) ≡ at_once s (opens_along open_walks_max request (start_in (if rooted then root_of 0 else current_spot s)) route)
+  by_start true = refl
+  by_start false = refl
+
+pub to_name : (version : ℕ) (s : Store) (request : OpenRequest) (path : List ℕ) (here : Spot) (name : List ℕ) (names : NamesEntry version s path here name) → at_once s (opens_along open_walks_max request (start_in (path_spot version s path)) (route_to path)) ≡ at_once s (looks (opens_along symloop_max) request (suc names.left) names.links here name)
 unfolding opens_along
-to_name s request path here name names =
-    ap (λ (last : Option Part). at_once s (open_end (opens_along symloop_max) request (name_in last) (resolve s path_names_max (parts_before last (parts_of path)) OnWay (slash_of path) symloop_max (root_of 0)))) names.last
+to_name version s request path here name names =
+    ap (λ (last : Option Part). at_once s (open_end (opens_along symloop_max) request (name_in last) (resolve s path_names_max (parts_before last (parts_of path)) OnWay (slash_of path) symloop_max (path_spot version s path)))) names.last
     ∙ ap (λ (end : Result End Errno). at_once s (open_end (opens_along symloop_max) request (Some name) end)) names.prefix
 
 found_in : (node : Option Node) → node_in (Answered (NamesAnswer (look_answer_at node))) ≡ Ok node
 found_in None = refl
 found_in (Some node) = refl
 
-looked : (s : Store) (follow : OpenRequest → Station → OpenRoute → Plan) (request : OpenRequest) (names links : ℕ) (here : Spot) (name : List ℕ) (directory : Listing) → directory_at s here ≡ Some directory → at_once s (looks follow request (suc names) links here name) ≡ at_once s (looked_plan follow request (station names links here) name (Ok (entry_at directory name)))
+pub looked : (s : Store) (follow : OpenRequest → Station → OpenRoute → Plan) (request : OpenRequest) (names links : ℕ) (here : Spot) (name : List ℕ) (directory : Listing) → directory_at s here ≡ Some directory → at_once s (looks follow request (suc names) links here name) ≡ at_once s (looked_plan follow request (station names links here) name (Ok (entry_at directory name)))
 looked s follow request names links here name directory is =
     let tree : Tree = names_at s here.backend in
     let next : NameAnswer → Plan = λ a. looked_plan follow request (station names links here) name (node_in (Answered (NamesAnswer a))) in
@@ -78,26 +86,27 @@ looked s follow request names links here name directory is =
     ∙ ap (λ (found : Result (Option Node) Errno). at_once s (looked_plan follow request (station names links here) name found)) (found_in (entry_at directory name))
 
 -- what stands there is opened, or nothing is there
-pub at_entry : (store : Store) (path : List ℕ) (flags : OpenFlags) (number : ℕ) (here : Spot) (name : List ℕ) (stood : Option Node) (reached : ReachesEntry store path flags number here name stood) → at_once store (opens path flags) ≡ at_once (held store number) (looked_plan (opens_along symloop_max) (request_of number flags (slash_of path)) (station reached.entry.left reached.entry.links here) name (Ok stood))
-at_entry store path flags number here name stood reached =
-    let same : Extends store (held store number) = record { entries = λ there other n e. e; parents = λ there parent e. e } in
-    let still : NamesEntry (held store number) path here name = record {
+pub at_entry : (version : ℕ) (store : Store) (path : List ℕ) (flags : OpenFlags) (number : ℕ) (here : Spot) (name : List ℕ) (stood : Option Node) (reached : ReachesEntry version store path flags number here name stood) → at_once store (opens (path_at version Cwd path) flags) ≡ at_once (held store number) (looked_plan (opens_along symloop_max) (request_of number flags (slash_of path)) (station reached.entry.left reached.entry.links here) name (Ok stood))
+at_entry version store path flags number here name stood reached =
+    let same : Extends store (held store number) = record { entries = λ there other n e. e; parents = λ there parent e. e; current = refl } in
+    let still : NamesEntry version (held store number) path here name = record {
       walked = reached.entry.walked;
       last = reached.entry.last;
       left = reached.entry.left;
       links = reached.entry.links;
-      prefix = leads_still store (held store number) same path_names_max (front_of (parts_of path)) OnWay (slash_of path) symloop_max (root_of 0) (Directory (station (suc reached.entry.left) reached.entry.links here)) reached.entry.prefix;
+      prefix = leads_still store (held store number) same path_names_max (front_of (parts_of path)) OnWay (slash_of path) symloop_max (path_spot version store path) (Directory (station (suc reached.entry.left) reached.entry.links here)) reached.entry.prefix;
     } in
-    reserves store path flags number reached.together reached.lowest reached.entry.walked
-    ∙ to_name (held store number) (request_of number flags (slash_of path)) path here name still
+    reserves version store path flags number reached.together reached.lowest reached.entry.walked
+    ∙ starts version (held store number) path (request_of number flags (slash_of path)) (route_to path)
+    ∙ to_name version (held store number) (request_of number flags (slash_of path)) path here name still
     ∙ looked (held store number) (opens_along symloop_max) (request_of number flags (slash_of path)) reached.entry.left reached.entry.links here name reached.directory reached.there
     ∙ ap (λ (found : Option Node). at_once (held store number) (looked_plan (opens_along symloop_max) (request_of number flags (slash_of path)) (station reached.entry.left reached.entry.links here) name (Ok found))) reached.stands
 
 -- A reserved number is filled.
 
-module _ (store : Store) (number : ℕ) (free : slice_get store.descriptors number ≡ Some slot.Free) where
-  reserved_here : slot_at (slice_set store.descriptors number slot.Reserved) number ≡ slot.Reserved
-  reserved_here = ap (λ (found : Option Slot). unwrap_or found slot.Free) (set_here store.descriptors number slot.Free slot.Reserved free)
+module _ (store : Store) (number : ℕ) (free : slice_get store.descriptors.slots number ≡ Some slot.Free) where
+  reserved_here : slot_at (with_slot store.descriptors number slot.Reserved) number ≡ slot.Reserved
+  reserved_here = ap (λ (found : Option Slot). unwrap_or found slot.Free) (set_here store.descriptors.slots number slot.Free slot.Reserved free)
 
   -- the number is filled, whatever was done to the backends meanwhile
   abbrev after_fill : Store → Slot → CallOutcome
@@ -106,12 +115,12 @@ module _ (store : Store) (number : ℕ) (free : slice_get store.descriptors numb
       at_once (record left { descriptors = o.map }) (unless_drops number (fault_in (Answered (DescriptorsAnswer o.answer))) (replies (reply.Fd number)))
 
   abbrev opened_as : Store → Slot → CallOutcome
-  opened_as left new = replied (record left { descriptors = slice_set store.descriptors number new }) (reply.Fd number)
+  opened_as left new = replied (record left { descriptors = with_slot store.descriptors number new }) (reply.Fd number)
 
-  pub filled : (left : Store) (new : Slot) → left.descriptors ≡ slice_set store.descriptors number slot.Reserved → after_fill left new ≡ opened_as left new
+  pub filled : (left : Store) (new : Slot) → left.descriptors ≡ with_slot store.descriptors number slot.Reserved → after_fill left new ≡ opened_as left new
   filled left new is =
       ap (λ (old : Slot). let o : DescriptorsOutcome = fill_outcome left.descriptors number new old in at_once (record left { descriptors = o.map }) (unless_drops number (fault_in (Answered (DescriptorsAnswer o.answer))) (replies (reply.Fd number)))) (ap (λ (m : Map). slot_at m number) is ∙ reserved_here)
-      ∙ ap (λ (m : Map). let left : Store = record left { descriptors = m } in replied left (reply.Fd number)) (ap (λ (m : Map). slice_set m number new) is ∙ set_twice store.descriptors number slot.Reserved new)
+      ∙ ap (λ (m : Map). let left : Store = record left { descriptors = m } in replied left (reply.Fd number)) (ap (λ (m : Map). with_slot m number new) is ∙ ap (λ (slots : List Slot). let m : Map = record { slots = slots; current = store.descriptors.current } in m) (set_twice store.descriptors.slots number slot.Reserved new))
 
   pub directory_opened : (request : OpenRequest) → request.number ≡ number → (there : Spot) → directory_fault request.flags ≡ None → at_once (held store number) (opens_directory request there) ≡ opened_as store (slot.Dir there.backend there.directory)
   directory_opened request is there fault =
@@ -130,7 +139,7 @@ module _ (group : Group) (file : ℕ) (mode : Mode) (was : File) (there : file_a
       ap (attach_outcome group file mode truncate) there
       ∙ ap (λ (is_linked : Bool). let o : FilesOutcome = if is_linked then record { group = attached truncate; answer = file_answer.Desc group.descriptions.next } else files_outcome group file_answer.Gone in o) linked
 
-pub file_opened : (store : Store) (flags : OpenFlags) (number : ℕ) (slash : Bool) (backend file : ℕ) (was : File) → slice_get store.descriptors number ≡ Some slot.Free → file_fault flags slash ≡ None → file_at (group_at store backend (file % group_count)) file ≡ Some was → was.linked ≡ true → (let group = group_at store backend (file % group_count) in at_once (held store number) (opens_file (request_of number flags slash) backend file) ≡ replied (with_opened store backend (file % group_count) (with_description (with_files group (files_after_truncation group.files file was flags.trunc)) file (mode_of flags)) number group.descriptions.next) (reply.Fd number))
+pub file_opened : (store : Store) (flags : OpenFlags) (number : ℕ) (slash : Bool) (backend file : ℕ) (was : File) → slice_get store.descriptors.slots number ≡ Some slot.Free → file_fault flags slash ≡ None → file_at (group_at store backend (file % group_count)) file ≡ Some was → was.linked ≡ true → (let group = group_at store backend (file % group_count) in at_once (held store number) (opens_file (request_of number flags slash) backend file) ≡ replied (with_opened store backend (file % group_count) (with_description (with_files group (files_after_truncation group.files file was flags.trunc)) file (mode_of flags)) number group.descriptions.next) (reply.Fd number))
 file_opened store flags number slash backend file was free fault there linked =
     let group : Group = group_at store backend (file % group_count) in
     let request : OpenRequest = request_of number flags slash in
@@ -145,7 +154,7 @@ added_is tree id name file directory is absent =
     ap (λ (d : Option Listing). unless_gone tree d (addfile_outcome tree id name file)) is
     ∙ ap (addfile_outcome_at tree id name file) absent
 
-pub file_made : (store : Store) (follow : OpenRequest → Station → OpenRoute → Plan) (flags : OpenFlags) (number : ℕ) (slash : Bool) (here : Station) (name : List ℕ) (directory : Listing) → slice_get store.descriptors number ≡ Some slot.Free → directory_at store here.spot ≡ Some directory → entry_at directory name ≡ None → (let group = group_at store here.spot.backend (number % group_count) in at_once (held store number) (makes follow (request_of number flags slash) here name) ≡ replied (with_names (with_opened store here.spot.backend (number % group_count) (fstep group (Make (mode_of flags))).group number group.descriptions.next) here.spot.backend (with_entry_at (names_at store here.spot.backend) here.spot.directory name (FileNode group.files.next))) (reply.Fd number))
+pub file_made : (store : Store) (follow : OpenRequest → Station → OpenRoute → Plan) (flags : OpenFlags) (number : ℕ) (slash : Bool) (here : Station) (name : List ℕ) (directory : Listing) → slice_get store.descriptors.slots number ≡ Some slot.Free → directory_at store here.spot ≡ Some directory → entry_at directory name ≡ None → (let group = group_at store here.spot.backend (number % group_count) in at_once (held store number) (makes follow (request_of number flags slash) here name) ≡ replied (with_names (with_opened store here.spot.backend (number % group_count) (fstep group (Make (mode_of flags))).group number group.descriptions.next) here.spot.backend (with_entry_at (names_at store here.spot.backend) here.spot.directory name (FileNode group.files.next))) (reply.Fd number))
 file_made store follow flags number slash here name directory free is absent =
     let backend : ℕ = here.spot.backend in
     let id : ℕ = here.spot.directory in

@@ -21,7 +21,7 @@ use Rattle.call_laws.specs.ExclusiveLaws.{ExclusivesRefuse}
 use Rattle.call_laws.proofs.OpenErrors.{drops_back, held, lowest_is_free}
 use Rattle.call_laws.proofs.OpenLemmas.{at_entry}
 
-module _ (store : Store) (number : ℕ) (free : slice_get store.descriptors number ≡ Some slot.Free) where
+module _ (store : Store) (number : ℕ) (free : slice_get store.descriptors.slots number ≡ Some slot.Free) where
   refused : (fault : Option Errno) (p : Plan) → fault ≡ Some Eexist → at_once (held store number) (unless_drops number fault p) ≡ replied store (reply.Fault Eexist)
   refused fault p is =
       ap (λ (f : Option Errno). at_once (held store number) (unless_drops number f p)) is
@@ -34,6 +34,6 @@ module _ (store : Store) (number : ℕ) (free : slice_get store.descriptors numb
   refused_at follow flags slash here (Link id text) exclusive plain = refused (link_fault flags slash) _ (ap (link_fault flags) plain ∙ ap (λ (b : Bool). let f : Option Errno = if b then Some Eexist else if flags.nofollow then Some Eloop else None in f) exclusive)
 
 pub exclusives_refuse : ExclusivesRefuse
-exclusives_refuse store path flags number here name stood reached exclusive plain =
-    at_entry store path flags number here name (Some stood) reached
+exclusives_refuse version store path flags number here name stood reached exclusive plain =
+    at_entry version store path flags number here name (Some stood) reached
     ∙ refused_at store number (lowest_is_free store.descriptors number reached.lowest) (opens_along symloop_max) flags (slash_of path) (station reached.entry.left reached.entry.links here) stood exclusive plain

@@ -25,30 +25,30 @@ use Rattle.path_walk.specs.declared.call.Reply.TheVariants.{Done, Fault}
 use Rattle.path_walk.specs.Store.{Store, names_at, with_names, group_at}
 use Rattle.file_store.specs.FileGroups.{fstep}
 use Rattle.path_walk.specs.Paths.{parts_of, front_of, slash_of}
-use Rattle.path_walk.specs.PathMeaning.{course, end_of_course, resolve, root_of}
+use Rattle.path_walk.specs.PathMeaning.{course, end_of_course, resolve}
 use Rattle.path_walk.specs.Programs.{CallOutcome}
 use Rattle.path_walk.specs.Plans.{at_once}
 use Rattle.path_walk.specs.Calls.{status_plan}
 use Rattle.path_walk.specs.Posix.{posix}
-use Rattle.call_laws.specs.Entries.{HasNamesInOrder, NamesEntry, after_loss, directory_at, node_of, path_end, prefix_end}
+use Rattle.call_laws.specs.Entries.{HasNamesInOrder, NamesEntry, after_loss, directory_at, node_of, path_end, prefix_end, path_spot, current_spot}
 use Rattle.call_laws.specs.EntryLaws.{EntryChanged, LeafUnlinked}
 use Rattle.call_laws.proofs.StoreLemmas.{names_by, names_here, names_other, names_grouped}
-use Rattle.call_laws.proofs.Leading.{Loses, SameOrNone, SameOrAbsent, leads_or_lost}
+use Rattle.call_laws.proofs.Leading.{Loses, SameOrNone, SameOrAbsent, leads_or_lost, spot_still}
 use Rattle.call_laws.proofs.ChangeLemmas.{change_done, change_at, entry_end, prefix_fails, whole_at}
 use Rattle.call_laws.proofs.MakingLemmas.{after_names}
 
 -- `rmdir`
 
 -- a directory was removed
-record RemovedDirectory (store : Store) (path : List ℕ) : Type 0 where
+record RemovedDirectory (version : ℕ) (store : Store) (path : List ℕ) : Type 0 where
   here : Spot
   name : List ℕ
-  names : NamesEntry store path here name
+  names : NamesEntry version store path here name
   directory : Listing
   there : directory_at store here ≡ Some directory
   child : ℕ
   outcome : nstep (names_at store here.backend) (Remdir here.directory name) ≡ outcome_of (without_directory (without_entry_at (names_at store here.backend) here.directory name) (Some child)) NameDone
-  new : (posix store (Rmdir path)).store ≡ with_names store here.backend (without_directory (without_entry_at (names_at store here.backend) here.directory name) (Some child))
+  new : (posix version store (Rmdir path)).store ≡ with_names store here.backend (without_directory (without_entry_at (names_at store here.backend) here.directory name) (Some child))
 
 module _ (store : Store) (backend : ℕ) (tree : Tree) (id : ℕ) (name : List ℕ) where
   abbrev TakesChild : NamesOutcome → Type 0
@@ -69,11 +69,11 @@ module _ (store : Store) (backend : ℕ) (tree : Tree) (id : ℕ) (name : List �
   remdir_done None h = cc
   remdir_done (Some directory) h = (directory, refl, node_done (entry_at directory name) h)
 
-rmdir_done : (store : Store) (path : List ℕ) → (posix store (Rmdir path)).reply ≡ Done → RemovedDirectory store path
-rmdir_done store path h =
-    let (here, name, names, slash) = change_done store change.Remdir path h in
+rmdir_done : (version : ℕ) (store : Store) (path : List ℕ) → (posix version store (Rmdir path)).reply ≡ Done → RemovedDirectory version store path
+rmdir_done version store path h =
+    let (here, name, names, slash) = change_done version store change.Remdir path h in
     let tree : Tree = names_at store here.backend in
-    let at : posix store (Rmdir path) ≡ after_names store here.backend (nstep tree (Remdir here.directory name)) = change_at store change.Remdir path here name names slash in
+    let at : posix version store (Rmdir path) ≡ after_names store here.backend (nstep tree (Remdir here.directory name)) = change_at version store change.Remdir path here name names slash in
     let (directory, there, (child, outcome)) = remdir_done store here.backend tree here.directory name (dir_at tree here.directory) (ap (λ (o : CallOutcome). o.reply) (sym at) ∙ h) in
     record {
       here = here;
@@ -86,12 +86,12 @@ rmdir_done store path h =
       new = ap (λ (o : CallOutcome). o.store) at ∙ ap (λ (o : NamesOutcome). (after_names store here.backend o).store) outcome;
     }
 
-pub rmdir_removes : (store : Store) (path : List ℕ) → (posix store (Rmdir path)).reply ≡ Done → EntryChanged store (posix store (Rmdir path)).store path DirectoryRemoved
-rmdir_removes store path h =
-    let m = rmdir_done store path h in
+pub rmdir_removes : (version : ℕ) (store : Store) (path : List ℕ) → (posix version store (Rmdir path)).reply ≡ Done → EntryChanged version store (posix version store (Rmdir path)).store path DirectoryRemoved
+rmdir_removes version store path h =
+    let m = rmdir_done version store path h in
     let tree : Tree = names_at store m.here.backend in
     let left : Tree = without_directory (without_entry_at tree m.here.directory m.name) (Some m.child) in
-    let names : names_at (posix store (Rmdir path)).store m.here.backend ≡ left = ap (λ (s : Store). names_at s m.here.backend) m.new ∙ names_here store m.here.backend left m.here.directory m.directory m.there in
+    let names : names_at (posix version store (Rmdir path)).store m.here.backend ≡ left = ap (λ (s : Store). names_at s m.here.backend) m.new ∙ names_here store m.here.backend left m.here.directory m.directory m.there in
     record {
       here = m.here;
       name = m.name;
@@ -142,27 +142,28 @@ module _ (tree : Tree) (id : ℕ) (name : List ℕ) (gone : Option ℕ) (ordered
   lost_parent other = same_then (parent_at tree other) (parent_at (without_entry_at tree id name) other) (parent_at left_tree other) (unlinked_parents tree id name other) (freed_parent (without_entry_at tree id name) gone other)
 
 -- a store whose names of one backend have lost something, whatever became of files
-module _ (store new : Store) (backend : ℕ) (tree left : Tree) (is_tree : names_at store backend ≡ tree) (here_is : names_at new backend ≡ left) (others_are : (other : ℕ) → other ≢ backend → names_at new other ≡ names_at store other) where
+module _ (store new : Store) (backend : ℕ) (tree left : Tree) (is_tree : names_at store backend ≡ tree) (here_is : names_at new backend ≡ left) (others_are : (other : ℕ) → other ≢ backend → names_at new other ≡ names_at store other) (same : current_spot new ≡ current_spot store) where
   store_loses : ((id : ℕ) (name : List ℕ) → SameOrNone (node_at tree id name) (node_at left id name)) → ((id : ℕ) → SameOrNone (parent_at tree id) (parent_at left id)) → Loses store new
   store_loses nodes parents = record {
     entries = λ here name. names_by store new backend tree left is_tree here_is others_are (λ t u. SameOrNone (node_at t here.directory name) (node_at u here.directory name)) here.backend (nodes here.directory name) (inl refl);
     parents = λ here. names_by store new backend tree left is_tree here_is others_are (λ t u. SameOrNone (parent_at t here.directory) (parent_at u here.directory)) here.backend (parents here.directory) (inl refl);
+    current = same;
   }
 
 absent_at_end : (error : Result End Errno) → error ≡ Err Enoent → (store : Store) → (at_once store (status_plan error)).reply ≡ Fault Enoent
 absent_at_end error e store = ap (λ (end : Result End Errno). (at_once store (status_plan end)).reply) e
 
 -- a path whose entry was lost is absent
-lstat_absent : (old new : Store) (path : List ℕ) (here : Spot) (name : List ℕ) → NamesEntry old path here name → Loses old new → node_of new here name ≡ None → (posix new (Lstat path)).reply ≡ Fault Enoent
-lstat_absent old new path here name names less absent =
-    ap (λ (o : CallOutcome). o.reply) (whole_at new Stays path status_plan names.walked)
-    ∙ absent_at_end (path_end new Stays path) (by_prefix (leads_or_lost old new less path_names_max (front_of (parts_of path)) OnWay (slash_of path) symloop_max (root_of 0))) new
+lstat_absent : (version : ℕ) (old new : Store) (path : List ℕ) (here : Spot) (name : List ℕ) → NamesEntry version old path here name → Loses old new → node_of new here name ≡ None → (posix version new (Lstat path)).reply ≡ Fault Enoent
+lstat_absent version old new path here name names less absent =
+    ap (λ (o : CallOutcome). o.reply) (whole_at version new Stays path status_plan names.walked)
+    ∙ absent_at_end (path_end version new Stays path) (by_prefix (subst (λ (start : Spot). SameOrAbsent (prefix_end version old path) (resolve new path_names_max (front_of (parts_of path)) OnWay (slash_of path) symloop_max start)) (sym (spot_still version old new path less.current)) (leads_or_lost old new less path_names_max (front_of (parts_of path)) OnWay (slash_of path) symloop_max (path_spot version old path)))) new
   where
-    by_prefix : SameOrAbsent (prefix_end old path) (prefix_end new path) → path_end new Stays path ≡ Err Enoent
-    by_prefix (inr e) = prefix_fails new Stays path (Down name) Enoent names.last e
+    by_prefix : SameOrAbsent (prefix_end version old path) (prefix_end version new path) → path_end version new Stays path ≡ Err Enoent
+    by_prefix (inr e) = prefix_fails version new Stays path (Down name) Enoent names.last e
     by_prefix (inl e) =
-        let still : NamesEntry new path here name = record { walked = names.walked; last = names.last; left = names.left; links = names.links; prefix = e ∙ names.prefix } in
-        entry_end new Stays path here name still ∙ ap (λ (n : Option Node). end_of_course (course Stays n [] (slash_of path) names.links here) (λ w. resolve new names.left w.rest Stays w.slash w.links w.spot)) absent
+        let still : NamesEntry version new path here name = record { walked = names.walked; last = names.last; left = names.left; links = names.links; prefix = e ∙ names.prefix } in
+        entry_end version new Stays path here name still ∙ ap (λ (n : Option Node). end_of_course (course Stays n [] (slash_of path) names.links here) (λ w. resolve new names.left w.rest Stays w.slash w.links w.spot)) absent
 
 -- the directory at the end of a walk, or else that one
 abbrev spot_in : Spot → Result End Errno → Spot
@@ -170,20 +171,20 @@ spot_in here (Ok (Directory there)) = there.spot
 spot_in here end = here
 
 -- a path names one entry
-same_entry : (store : Store) (path : List ℕ) (here there : Spot) (name other : List ℕ) → NamesEntry store path here name → NamesEntry store path there other → there ≡ here
-same_entry store path here there name other first second = ap (λ (end : Result End Errno). spot_in here end) (sym second.prefix ∙ first.prefix)
+same_entry : (version : ℕ) (store : Store) (path : List ℕ) (here there : Spot) (name other : List ℕ) → NamesEntry version store path here name → NamesEntry version store path there other → there ≡ here
+same_entry version store path here there name other first second = ap (λ (end : Result End Errno). spot_in here end) (sym second.prefix ∙ first.prefix)
 
-pub rmdir_then_lstat : (store : Store) (path : List ℕ) (here : Spot) (name : List ℕ) → NamesEntry store path here name → HasNamesInOrder store here → (posix store (Rmdir path)).reply ≡ Done → (posix (posix store (Rmdir path)).store (Lstat path)).reply ≡ Fault Enoent
-rmdir_then_lstat store path here name names order h =
-    let m = rmdir_done store path h in
+pub rmdir_then_lstat : (version : ℕ) (store : Store) (path : List ℕ) (here : Spot) (name : List ℕ) → NamesEntry version store path here name → HasNamesInOrder store here → (posix version store (Rmdir path)).reply ≡ Done → (posix version (posix version store (Rmdir path)).store (Lstat path)).reply ≡ Fault Enoent
+rmdir_then_lstat version store path here name names order h =
+    let m = rmdir_done version store path h in
     let tree : Tree = names_at store m.here.backend in
     let left : Tree = without_directory (without_entry_at tree m.here.directory m.name) (Some m.child) in
     let new : Store = with_names store m.here.backend left in
-    let ordered : Ordered tree m.here.directory = subst (HasNamesInOrder store) (sym (same_entry store path here m.here name m.name names m.names)) order in
+    let ordered : Ordered tree m.here.directory = subst (HasNamesInOrder store) (sym (same_entry version store path here m.here name m.name names m.names)) order in
     let here_is : names_at new m.here.backend ≡ left = names_here store m.here.backend left m.here.directory m.directory m.there in
-    let less : Loses store new = store_loses store new m.here.backend tree left refl here_is (λ other ne. names_other store m.here.backend other left ne) (lost_node tree m.here.directory m.name (Some m.child) ordered) (lost_parent tree m.here.directory m.name (Some m.child) ordered) in
-    ap (λ (s : Store). (posix s (Lstat path)).reply) m.new
-    ∙ lstat_absent store new path m.here m.name m.names less (ap (λ (t : Tree). node_at t m.here.directory m.name) here_is ∙ lost_here tree m.here.directory m.name (Some m.child) ordered)
+    let less : Loses store new = store_loses store new m.here.backend tree left refl here_is (λ other ne. names_other store m.here.backend other left ne) refl (lost_node tree m.here.directory m.name (Some m.child) ordered) (lost_parent tree m.here.directory m.name (Some m.child) ordered) in
+    ap (λ (s : Store). (posix version s (Lstat path)).reply) m.new
+    ∙ lstat_absent version store new path m.here m.name m.names less (ap (λ (t : Tree). node_at t m.here.directory m.name) here_is ∙ lost_here tree m.here.directory m.name (Some m.child) ordered)
 
 -- `unlink`
 
@@ -191,6 +192,13 @@ rmdir_then_lstat store path here name names order h =
 abbrev loss_answer : Node → NameAnswer
 loss_answer (FileNode file) = RemovedFile file
 loss_answer node = RemovedLink
+
+pub loss_current : (store : Store) (backend : ℕ) (node : Option Node) → current_spot (after_loss store backend node) ≡ current_spot store
+loss_current store backend None = refl
+loss_current store backend (Some (Dir id)) = refl
+loss_current store backend (Some (Link id text)) = refl
+loss_current store backend (Some (FileNode file)) = refl
+loss_current store backend (Some (Mount mounted)) = refl
 
 pub loss_names : (store : Store) (backend : ℕ) (node : Option Node) (other : ℕ) → names_at (after_loss store backend node) other ≡ names_at store other
 loss_names store backend None other = refl
@@ -206,16 +214,16 @@ leaf_removed old new id name (Dir child) stood (other, body, h) = let e = sym h.
 leaf_removed old new id name (Mount backend) stood (other, body, h) = let e = sym h.stood ∙ stood in cc
 
 -- a file or a link was removed
-record RemovedLeaf (store : Store) (path : List ℕ) : Type 0 where
+record RemovedLeaf (version : ℕ) (store : Store) (path : List ℕ) : Type 0 where
   here : Spot
   name : List ℕ
-  names : NamesEntry store path here name
+  names : NamesEntry version store path here name
   directory : Listing
   there : directory_at store here ≡ Some directory
   leaf : Node
   stood : node_of store here name ≡ Some leaf
   outcome : nstep (names_at store here.backend) (Remfile here.directory name (slash_of path)) ≡ outcome_of (without_entry_at (names_at store here.backend) here.directory name) (loss_answer leaf)
-  new : (posix store (Unlink path)).store ≡ after_loss (with_names store here.backend (without_entry_at (names_at store here.backend) here.directory name)) here.backend (Some leaf)
+  new : (posix version store (Unlink path)).store ≡ after_loss (with_names store here.backend (without_entry_at (names_at store here.backend) here.directory name)) here.backend (Some leaf)
 
 module _ (store : Store) (backend : ℕ) (tree : Tree) (id : ℕ) (name : List ℕ) where
   abbrev Unlinks : Option Node → NamesOutcome → Type 0
@@ -234,26 +242,26 @@ module _ (store : Store) (backend : ℕ) (tree : Tree) (id : ℕ) (name : List �
   remfile_done slash None h = cc
   remfile_done slash (Some directory) h = (directory, refl, leaf_done slash (entry_at directory name) h)
 
-unlink_done : (store : Store) (path : List ℕ) → (posix store (Unlink path)).reply ≡ Done → RemovedLeaf store path
-unlink_done store path h =
-    let (here, name, names, slash) = change_done store change.Remfile path h in
+unlink_done : (version : ℕ) (store : Store) (path : List ℕ) → (posix version store (Unlink path)).reply ≡ Done → RemovedLeaf version store path
+unlink_done version store path h =
+    let (here, name, names, slash) = change_done version store change.Remfile path h in
     let tree : Tree = names_at store here.backend in
-    let at : posix store (Unlink path) ≡ after_names store here.backend (nstep tree (Remfile here.directory name (slash_of path))) = change_at store change.Remfile path here name names slash in
+    let at : posix version store (Unlink path) ≡ after_names store here.backend (nstep tree (Remfile here.directory name (slash_of path))) = change_at version store change.Remfile path here name names slash in
     let (directory, there, (leaf, stood, outcome, new)) = remfile_done store here.backend tree here.directory name (slash_of path) (dir_at tree here.directory) (ap (λ (o : CallOutcome). o.reply) (sym at) ∙ h) in
     record { here = here; name = name; names = names; directory = directory; there = there; leaf = leaf; stood = stood; outcome = outcome; new = ap (λ (o : CallOutcome). o.store) at ∙ new }
 
 -- the names after an `unlink`
-left_names : (store : Store) (path : List ℕ) (m : RemovedLeaf store path) → names_at (after_loss (with_names store m.here.backend (without_entry_at (names_at store m.here.backend) m.here.directory m.name)) m.here.backend (Some m.leaf)) m.here.backend ≡ without_entry_at (names_at store m.here.backend) m.here.directory m.name
-left_names store path m =
+left_names : (version : ℕ) (store : Store) (path : List ℕ) (m : RemovedLeaf version store path) → names_at (after_loss (with_names store m.here.backend (without_entry_at (names_at store m.here.backend) m.here.directory m.name)) m.here.backend (Some m.leaf)) m.here.backend ≡ without_entry_at (names_at store m.here.backend) m.here.directory m.name
+left_names version store path m =
     loss_names (with_names store m.here.backend (without_entry_at (names_at store m.here.backend) m.here.directory m.name)) m.here.backend (Some m.leaf) m.here.backend
     ∙ names_here store m.here.backend (without_entry_at (names_at store m.here.backend) m.here.directory m.name) m.here.directory m.directory m.there
 
-pub unlink_removes : (store : Store) (path : List ℕ) → (posix store (Unlink path)).reply ≡ Done → LeafUnlinked store (posix store (Unlink path)).store path
-unlink_removes store path h =
-    let m = unlink_done store path h in
+pub unlink_removes : (version : ℕ) (store : Store) (path : List ℕ) → (posix version store (Unlink path)).reply ≡ Done → LeafUnlinked version store (posix version store (Unlink path)).store path
+unlink_removes version store path h =
+    let m = unlink_done version store path h in
     let tree : Tree = names_at store m.here.backend in
     let left : Tree = without_entry_at tree m.here.directory m.name in
-    let names : names_at (posix store (Unlink path)).store m.here.backend ≡ left = ap (λ (s : Store). names_at s m.here.backend) m.new ∙ left_names store path m in
+    let names : names_at (posix version store (Unlink path)).store m.here.backend ≡ left = ap (λ (s : Store). names_at s m.here.backend) m.new ∙ left_names version store path m in
     record {
       here = m.here;
       name = m.name;
@@ -264,14 +272,14 @@ unlink_removes store path h =
       elsewhere = m.new ∙ ap (λ (t : Tree). after_loss (with_names store m.here.backend t) m.here.backend (Some m.leaf)) (sym names);
     }
 
-pub unlink_then_lstat : (store : Store) (path : List ℕ) (here : Spot) (name : List ℕ) → NamesEntry store path here name → HasNamesInOrder store here → (posix store (Unlink path)).reply ≡ Done → (posix (posix store (Unlink path)).store (Lstat path)).reply ≡ Fault Enoent
-unlink_then_lstat store path here name names order h =
-    let m = unlink_done store path h in
+pub unlink_then_lstat : (version : ℕ) (store : Store) (path : List ℕ) (here : Spot) (name : List ℕ) → NamesEntry version store path here name → HasNamesInOrder store here → (posix version store (Unlink path)).reply ≡ Done → (posix version (posix version store (Unlink path)).store (Lstat path)).reply ≡ Fault Enoent
+unlink_then_lstat version store path here name names order h =
+    let m = unlink_done version store path h in
     let tree : Tree = names_at store m.here.backend in
     let left : Tree = without_entry_at tree m.here.directory m.name in
     let new : Store = after_loss (with_names store m.here.backend left) m.here.backend (Some m.leaf) in
-    let ordered : Ordered tree m.here.directory = subst (HasNamesInOrder store) (sym (same_entry store path here m.here name m.name names m.names)) order in
-    let here_is : names_at new m.here.backend ≡ left = left_names store path m in
-    let less : Loses store new = store_loses store new m.here.backend tree left refl here_is (λ other ne. loss_names (with_names store m.here.backend left) m.here.backend (Some m.leaf) other ∙ names_other store m.here.backend other left ne) (lost_node tree m.here.directory m.name None ordered) (lost_parent tree m.here.directory m.name None ordered) in
-    ap (λ (s : Store). (posix s (Lstat path)).reply) m.new
-    ∙ lstat_absent store new path m.here m.name m.names less (ap (λ (t : Tree). node_at t m.here.directory m.name) here_is ∙ unlinked_at tree m.here.directory m.name ordered)
+    let ordered : Ordered tree m.here.directory = subst (HasNamesInOrder store) (sym (same_entry version store path here m.here name m.name names m.names)) order in
+    let here_is : names_at new m.here.backend ≡ left = left_names version store path m in
+    let less : Loses store new = store_loses store new m.here.backend tree left refl here_is (λ other ne. loss_names (with_names store m.here.backend left) m.here.backend (Some m.leaf) other ∙ names_other store m.here.backend other left ne) (loss_current (with_names store m.here.backend left) m.here.backend (Some m.leaf)) (lost_node tree m.here.directory m.name None ordered) (lost_parent tree m.here.directory m.name None ordered) in
+    ap (λ (s : Store). (posix version s (Lstat path)).reply) m.new
+    ∙ lstat_absent version store new path m.here m.name m.names less (ap (λ (t : Tree). node_at t m.here.directory m.name) here_is ∙ unlinked_at tree m.here.directory m.name ordered)

@@ -1,4 +1,7 @@
 -- A call owes at most one number, one description and one file.
+use Rattle.path_walk.specs.declared.call.Base.{Base}
+use Rattle.path_walk.specs.declared.call.Base.TheVariants.{Cwd, Fd}
+use Rattle.path_walk.specs.declared.act.PathAt.{PathAt}
 use Rattle.std.proofs.Common.{arith, ◌≡◌, ℕ, ◌==◌, ◌≤◌, ◌&&◌, not, filter, length, zero, suc, Bool, true, false, cond, if◌then◌else◌, List, [], ◌∷◌, Option, None, Some, Result, Ok, Err, sym, ap, subst, ◌∙◌}
 use Rattle.std.proofs.lemmas.Bool.Decides.{nat_tests}
 use Rattle.std.specs.declared.alloc.AllocError.{AllocError}
@@ -34,12 +37,12 @@ use Rattle.path_walk.specs.declared.step.StepAnswer.{StepAnswer}
 use Rattle.path_walk.specs.declared.step.StepAnswer.TheVariants.{Answered, Cancelled, Closed}
 use Rattle.path_walk.specs.declared.call.Reply.{Reply}
 use Rattle.path_walk.specs.declared.call.Reply.TheVariants as reply
-use Rattle.path_walk.specs.PathMeaning.{Way, Course, ends, goes, path_start, root_of, spot_beside, start_of, station}
+use Rattle.path_walk.specs.PathMeaning.{Way, Course, ends, goes, root_of, spot_beside, start_of, station, start_in}
 use Rattle.path_walk.specs.Programs.{Begins, Program, finished, asks, Step}
 use Rattle.path_walk.specs.Walk.{course_on, node_in, program_on, walk}
-use Rattle.path_walk.specs.Plans.{Plan, replies, steps, walks, cell_of_id, fails, fault_in, program_of, reply_to, unless_fault}
-use Rattle.path_walk.specs.DescriptorCalls.{number_plan, op_of_data, releases, data_step_plan}
-use Rattle.path_walk.specs.OpenPlan.{absent_fault, added_plan, attached_by, attached_plan, description_in, directory_fault, drops, file_fault, file_in, fills, flags_fault, follows, found_plan, link_fault, looked_plan, looks, made_by, made_plan, makes, meant_plan, open_end, open_route, open_walks_max, opens_along, opens_by, opens_directory, opens_file, request_of, reserved_plan, route_to, unless_drops, unlinked_plan, unmakes}
+use Rattle.path_walk.specs.Plans.{Plan, replies, steps, walks, cell_of_id, fails, fault_in, program_of, reply_to, unless_fault, from_base, spot_in, walks_in}
+use Rattle.path_walk.specs.DescriptorCalls.{number_plan, op_of_data, releases, data_step_plan, enters}
+use Rattle.path_walk.specs.OpenPlan.{absent_fault, added_plan, attached_by, attached_plan, description_in, directory_fault, drops, file_fault, file_in, fills, flags_fault, follows, found_plan, link_fault, looked_plan, looks, made_by, made_plan, makes, meant_plan, open_end, open_route, open_walks_max, opens_along, opens_by, opens_directory, opens_file, request_of, reserved_plan, route_to, unless_drops, unlinked_plan, unmakes, opens_in}
 use Rattle.path_walk.specs.Calls.{last_step, plan_after, unlinked_by}
 use Rattle.path_walk.specs.Posix.{program}
 use Rattle.path_walk.proofs.Plans.{Holds, any_end, each_call}
@@ -294,26 +297,39 @@ unfolding opens_along
 opens_along_few zero request from route = drops_few (holds request.number) (holds_small request.number) request.number Eloop
 opens_along_few (suc walks_left) request from route = walks_few (holds request.number) (holds_small request.number) from route.route (open_end (opens_along walks_left) request route.name) (λ end. end_few (opens_along walks_left) (opens_along_few walks_left) request route.name end)
 
-by_few : (number : ℕ) (flags : OpenFlags) (route : Result OpenRoute Errno) → OwesFew (holds number) (opens_by number flags route)
-by_few number flags (Err error) = drops_few (holds number) (holds_small number) number error
-by_few number flags (Ok route) = opens_along_few open_walks_max (request_of number flags route.route.slash) path_start route
+from_few : (debt : Debt) (small : IsSmall debt) (origin : Option Base) (next : Result Spot Errno → Plan) → ((start : Result Spot Errno) → OwesFew debt (next start)) → OwesFew debt (from_base origin next)
+from_few debt small None next each = each (Ok (root_of 0))
+from_few debt small (Some Cwd) next each = step_few debt DescriptorsCell (DescriptorsOp fd.Cwd) _ small (λ told. each (spot_in told))
+from_few debt small (Some (Fd number)) next each = step_few debt DescriptorsCell (DescriptorsOp (fd.Look number)) _ small (λ told. each (spot_in told))
 
-reserved_few : (flags : OpenFlags) (route : Result OpenRoute Errno) (told : StepAnswer) → OwesFew (with_number no_debt (number_in told)) (reserved_plan flags route told)
-reserved_few flags route (Answered (NamesAnswer given)) = reply_few _ _ small_none
-reserved_few flags route (Answered (FilesAnswer given)) = reply_few _ _ small_none
-reserved_few flags route (Answered (DescriptorsAnswer (fd_answer.Fd given))) = by_few given flags route
-reserved_few flags route (Answered (DescriptorsAnswer (fd_answer.File home named))) = reply_few _ _ small_none
-reserved_few flags route (Answered (DescriptorsAnswer (fd_answer.Dir home named))) = reply_few _ _ small_none
-reserved_few flags route (Answered (DescriptorsAnswer fd_answer.Done)) = reply_few _ _ small_none
-reserved_few flags route (Answered (DescriptorsAnswer (fd_answer.Last home named))) = reply_few _ _ small_none
-reserved_few flags route (Answered (DescriptorsAnswer (fd_answer.FdLast given home named))) = reply_few _ _ small_none
-reserved_few flags route (Answered (DescriptorsAnswer (fd_answer.Fault error))) = reply_few _ _ small_none
-reserved_few flags route Cancelled = reply_few _ _ small_none
-reserved_few flags route Closed = reply_few _ _ small_none
+walks_in_few : (debt : Debt) (small : IsSmall debt) (route : Route) (next : Result End Errno → Plan) → ((end : Result End Errno) → OwesFew debt (next end)) → (start : Result Spot Errno) → OwesFew debt (walks_in route next start)
+walks_in_few debt small route next each (Ok spot) = walks_few debt small (start_in spot) route next each
+walks_in_few debt small route next each (Err error) = each (Err error)
 
-opens_few : (path : List ℕ) (flags : OpenFlags) (fault : Option Errno) → OwesFew no_debt (unless_fault fault (steps DescriptorsCell (DescriptorsOp fd.Reserve) (reserved_plan flags (open_route path))))
-opens_few path flags (Some error) = reply_few _ _ small_none
-opens_few path flags None = step_few no_debt DescriptorsCell (DescriptorsOp fd.Reserve) (reserved_plan flags (open_route path)) small_none (λ told. reserved_few flags (open_route path) told)
+in_few : (request : OpenRequest) (route : OpenRoute) (start : Result Spot Errno) → OwesFew (holds request.number) (opens_in request route start)
+in_few request route (Ok spot) = opens_along_few open_walks_max request (start_in spot) route
+in_few request route (Err error) = drops_few (holds request.number) (holds_small request.number) request.number error
+
+by_few : (number : ℕ) (flags : OpenFlags) (origin : Option Base) (route : Result OpenRoute Errno) → OwesFew (holds number) (opens_by number flags origin route)
+by_few number flags origin (Err error) = drops_few (holds number) (holds_small number) number error
+by_few number flags origin (Ok route) = from_few (holds number) (holds_small number) origin (opens_in (request_of number flags route.route.slash) route) (in_few (request_of number flags route.route.slash) route)
+
+reserved_few : (flags : OpenFlags) (origin : Option Base) (route : Result OpenRoute Errno) (told : StepAnswer) → OwesFew (with_number no_debt (number_in told)) (reserved_plan flags origin route told)
+reserved_few flags origin route (Answered (NamesAnswer given)) = reply_few _ _ small_none
+reserved_few flags origin route (Answered (FilesAnswer given)) = reply_few _ _ small_none
+reserved_few flags origin route (Answered (DescriptorsAnswer (fd_answer.Fd given))) = by_few given flags origin route
+reserved_few flags origin route (Answered (DescriptorsAnswer (fd_answer.File home named))) = reply_few _ _ small_none
+reserved_few flags origin route (Answered (DescriptorsAnswer (fd_answer.Dir home named))) = reply_few _ _ small_none
+reserved_few flags origin route (Answered (DescriptorsAnswer fd_answer.Done)) = reply_few _ _ small_none
+reserved_few flags origin route (Answered (DescriptorsAnswer (fd_answer.Last home named))) = reply_few _ _ small_none
+reserved_few flags origin route (Answered (DescriptorsAnswer (fd_answer.FdLast given home named))) = reply_few _ _ small_none
+reserved_few flags origin route (Answered (DescriptorsAnswer (fd_answer.Fault error))) = reply_few _ _ small_none
+reserved_few flags origin route Cancelled = reply_few _ _ small_none
+reserved_few flags origin route Closed = reply_few _ _ small_none
+
+opens_few : (at : PathAt) (flags : OpenFlags) (fault : Option Errno) → OwesFew no_debt (unless_fault fault (steps DescriptorsCell (DescriptorsOp fd.Reserve) (reserved_plan flags at.base (open_route at.path))))
+opens_few at flags (Some error) = reply_few _ _ small_none
+opens_few at flags None = step_few no_debt DescriptorsCell (DescriptorsOp fd.Reserve) (reserved_plan flags at.base (open_route at.path)) small_none (λ told. reserved_few flags at.base (open_route at.path) told)
 
 -- Numbers.
 
@@ -392,6 +408,10 @@ module _ (backend : ℕ) where
   last_few (name_op.Move from name to new_name slash) = step_few no_debt (NamesCell backend) (NamesOp (name_op.Move from name to new_name slash)) next_of small_none (λ told. after_few _ (lost_small (unlinked_by told)) told (unlinked_by told))
   last_few (name_op.List id start) = step_few no_debt (NamesCell backend) (NamesOp (name_op.List id start)) next_of small_none (λ told. after_few no_debt small_none told (unlinked_by told))
 
+enters_few : (start : Result Spot Errno) → OwesFew no_debt (enters start)
+enters_few (Ok there) = step_few no_debt DescriptorsCell (DescriptorsOp (fd.Setcwd there.backend there.directory)) _ small_none (λ told. reply_few _ _ small_none)
+enters_few (Err error) = reply_few _ _ small_none
+
 -- Calls.
 
 abbrev IsFew : ℕ → Plan → Type 0
@@ -406,8 +426,10 @@ few_holds = record {
   takes_numbers = λ number. step_few no_debt DescriptorsCell (DescriptorsOp (fd.Take number)) number_plan small_none (λ told. numbers_few told);
   copies_numbers = λ number. step_few no_debt DescriptorsCell (DescriptorsOp (fd.Copy number)) number_plan small_none (λ told. copies_few told);
   copies_onto = λ number target. step_few no_debt DescriptorsCell (DescriptorsOp (fd.Copyto number target)) number_plan small_none (λ told. numbers_few told);
-  opens_paths = λ path flags. opens_few path flags (flags_fault flags);
-  along = λ count route next each. walks_few no_debt small_none path_start route next (λ end. each end (any_end end));
+  opens_paths = λ at flags. opens_few at flags (flags_fault flags);
+  along = λ count origin route next each. from_few no_debt small_none origin (walks_in route next) (walks_in_few no_debt small_none route next (λ end. each end (any_end end)));
+  sets = λ count there so. enters_few (Ok there);
+  enters_numbers = λ number. from_few no_debt small_none (Some (Fd number)) enters enters_few;
 }
 
 few_now : (p : Program) (debt : Debt) → Few debt p → IsSmall debt
@@ -426,4 +448,4 @@ few_along (asks cell op next) debt (step ∷ other ∷ taken) few (told, is, res
     subst (λ (s : Step). IsSmall (debt_along (debt_by debt s.cell s.op s.outcome) (other ∷ taken))) (sym is) (few_along (next told) (debt_after debt cell op told) (other ∷ taken) (few.1 told) rest)
 
 pub debts_are_small : DebtsAreSmall
-debts_are_small c taken begins = few_along (program c) no_debt taken (each_call IsFew (λ backend. Unit {0}) few_holds c).few begins
+debts_are_small version c taken begins = few_along (program version c) no_debt taken (each_call IsFew (λ backend. Unit {0}) few_holds version c).few begins

@@ -101,8 +101,8 @@ plan_stays_sound (replies given) store sound = sound
 plan_stays_sound (steps cell op next) store sound = plan_stays_sound (next (Answered (cstep store cell op).answer)) (cstep store cell op).store (step_stays_sound store cell op sound)
 plan_stays_sound (walks from route next) store sound = plan_stays_sound (next (resolve store from.names route.parts route.manner route.slash from.links from.spot)) store sound
 
-pub call_stays_sound : (store : Store) (c : Call) → IsSoundStore store → IsSoundStore (posix store c).store
-call_stays_sound store c sound = plan_stays_sound (plan c) store sound
+pub call_stays_sound : (version : ℕ) (store : Store) (c : Call) → IsSoundStore store → IsSoundStore (posix version store c).store
+call_stays_sound version store c sound = plan_stays_sound (plan version c) store sound
 
 -- Runs.
 
@@ -118,9 +118,9 @@ opening_is_sound [] number backend h = cc
 opening_is_sound (one ∷ mounts) zero backend h = let same : opening_backend one ≡ backend = cc in subst IsSoundBackend same (record { names = names_opening_sound one; groups = opening_groups })
 opening_is_sound (one ∷ mounts) (suc number) backend h = opening_is_sound mounts number backend h
 
-runs_from : (calls : List Call) (store : Store) → IsSoundStore store → IsSoundStore (store_after store calls)
-runs_from [] store sound = sound
-runs_from (c ∷ calls) store sound = runs_from calls (posix store c).store (call_stays_sound store c sound)
+runs_from : (version : ℕ) (calls : List Call) (store : Store) → IsSoundStore store → IsSoundStore (store_after version store calls)
+runs_from version [] store sound = sound
+runs_from version (c ∷ calls) store sound = runs_from version calls (posix version store c).store (call_stays_sound version store c sound)
 
 pub runs_are_sound : RunsAreSound
-runs_are_sound mounts calls = runs_from calls (opening_store mounts) (opening_is_sound mounts)
+runs_are_sound version mounts calls = runs_from version calls (opening_store mounts) (opening_is_sound mounts)

@@ -1,11 +1,11 @@
 -- Stores stay tidy where a description ends with its last number, and where a new one gets a number.
-use Rattle.std.proofs.Common.{arith, ◌≡◌, ◌≢◌, ◌⊎◌, inl, inr, ℕ, ◌%◌, true, false, Option, None, Some, is_some, slice_get, slice_set, unwrap_or, refl, sym, ap, ◌∙◌}
+use Rattle.std.proofs.Common.{arith, ◌≡◌, ◌≢◌, ◌⊎◌, inl, inr, ℕ, ◌%◌, true, false, Option, None, Some, is_some, slice_get, unwrap_or, refl, sym, ap, ◌∙◌}
 use Rattle.std.proofs.lemmas.Bool.{false≢true}
 use Rattle.wf_core.specs.Limits.{group_count}
 use Rattle.name_store.proofs.Changes.{same_id}
 use Rattle.file_store.specs.declared.descriptor_operation.Slot.{Slot}
 use Rattle.file_store.specs.declared.descriptor_operation.Slot.TheVariants as slot
-use Rattle.file_store.specs.DescriptorMap.{Map, is_description_open, slot_at}
+use Rattle.file_store.specs.DescriptorMap.{with_slot, Map, is_description_open, slot_at}
 use Rattle.file_store.specs.declared.file.Description.{Description}
 use Rattle.file_store.specs.declared.file_operation.FileOp.TheVariants as op
 use Rattle.file_store.specs.FileGroups.{Group, description_at, fstep, release_outcome}
@@ -18,7 +18,7 @@ use Rattle.call_laws.specs.RunLaws.{IsSoundStore, IsTidy}
 use Rattle.call_laws.proofs.GroupLemmas.{backend_of, group_here, group_set}
 use Rattle.call_laws.proofs.SoundStores.{group_found}
 use Rattle.call_laws.proofs.OpenErrors.{set_here}
-use Rattle.call_laws.proofs.TidyLemmas.{group_either, is_there, none_of_closed, slot_either, slot_other, with_slot}
+use Rattle.call_laws.proofs.TidyLemmas.{group_either, is_there, none_of_closed, slot_either, slot_other, store_with_slot}
 
 some_of : {X : Type 0} (x : Option X) → is_some x ≡ true → (w : X) × (x ≡ Some w)
 some_of None h = absurd (false≢true h)
@@ -39,8 +39,8 @@ abbrev description_in : Slot → ℕ
 description_in (slot.File b d) = d
 description_in s = 0
 
-number_names : (map : Map) (number : ℕ) (old new : Slot) → slice_get map number ≡ Some old → slot_at (slice_set map number new) number ≡ new
-number_names map number old new h = ap (λ (found : Option Slot). unwrap_or found slot.Free) (set_here map number old new h)
+number_names : (map : Map) (number : ℕ) (old new : Slot) → slice_get map.slots number ≡ Some old → slot_at (with_slot map number new) number ≡ new
+number_names map number old new h = ap (λ (found : Option Slot). unwrap_or found slot.Free) (set_here map.slots number old new h)
 
 -- A description that is released.
 
@@ -61,10 +61,10 @@ module _ (store : Store) (number : ℕ) (new : Slot) (b d : ℕ) (sound : IsSoun
   left = (fstep group (op.Release d)).group
 
   abbrev map : Map
-  map = slice_set store.descriptors number new
+  map = with_slot store.descriptors number new
 
   abbrev after : Store
-  after = with_group (with_slot store number new) b place left
+  after = with_group (store_with_slot store number new) b place left
 
   module _ (named : slot_at store.descriptors number ≡ slot.File b d) (closed : is_description_open b d map ≡ false) where
     was : (w : Description) × (description_at group d ≡ Some w)
@@ -76,11 +76,11 @@ module _ (store : Store) (number : ℕ) (new : Slot) (b d : ℕ) (sound : IsSoun
         (group_found store b place old sound there (omega arith)).1
 
     gone : is_there after b d ≡ false
-    gone = ap (λ (g : Group). is_some (description_at g d)) (group_here (with_slot store number new) b place left d was.0 was.1) ∙ ap is_some (released_here group d _ group_is_sound.description_ids)
+    gone = ap (λ (g : Group). is_some (description_at g d)) (group_here (store_with_slot store number new) b place left d was.0 was.1) ∙ ap is_some (released_here group d _ group_is_sound.description_ids)
 
     stays : (b' d' : ℕ) → (b' ≡ b → d' ≡ d → ⊥) → is_there after b' d' ≡ is_there store b' d'
     stays b' d' apart =
-        group_either (with_slot store number new) b place left b' (d' % group_count) (λ (g : Group). is_some (description_at g d') ≡ is_there store b' d')
+        group_either (store_with_slot store number new) b place left b' (d' % group_count) (λ (g : Group). is_some (description_at g d') ≡ is_there store b' d')
         (λ e f. ap is_some (offsets_are_apart.on group d d' (op.Release d) refl (apart e)) ∙ sym (ap (λ (n : ℕ). is_some (description_at (group_at store n place) d')) e) ∙ sym (ap (λ (n : ℕ). is_some (description_at (group_at store b' n) d')) f)) refl
 
     not_named : (n b' d' : ℕ) → slot_at map n ≡ slot.File b' d' → b' ≡ b → d' ≡ d → ⊥
@@ -100,7 +100,7 @@ module _ (store : Store) (number : ℕ) (new : Slot) (b d : ℕ) (sound : IsSoun
 
 -- A description that is new.
 
-module _ (store : Store) (b place : ℕ) (new : Group) (number d : ℕ) (tidy : IsTidy store) (free : slice_get store.descriptors number ≡ Some slot.Free) (there : slice_get (backend_at store b).groups place ≡ Some (group_at store b place)) (of_group : d % group_count ≡ place) where
+module _ (store : Store) (b place : ℕ) (new : Group) (number d : ℕ) (tidy : IsTidy store) (free : slice_get store.descriptors.slots number ≡ Some slot.Free) (there : slice_get (backend_at store b).groups place ≡ Some (group_at store b place)) (of_group : d % group_count ≡ place) where
   abbrev opened : Store
   opened = with_opened store b place new number d
 

@@ -1,4 +1,6 @@
 -- Stores stay tidy where a number, or the descriptions of a group, change.
+use Rattle.std.specs.List.{list_any}
+use Rattle.std.specs.Prelude.{slice_get, unwrap_or}
 use Rattle.std.proofs.Common.{◌≡◌, ◌≢◌, inl, inr, ℕ, ◌%◌, ◌==◌, ◌&&◌, ◌||◌, zero, suc, Bool, true, false, List, [], ◌∷◌, Some, is_some, slice_get, slice_set, unwrap_or, refl, sym, ap, subst, ◌∙◌}
 use Rattle.std.proofs.lemmas.Bool.{false≢true}
 use Rattle.std.proofs.lemmas.Bool.Decides.{Decides-eqb}
@@ -7,7 +9,7 @@ use Rattle.name_store.specs.NameTrees.{Tree}
 use Rattle.name_store.proofs.Changes.{same_id}
 use Rattle.file_store.specs.declared.descriptor_operation.Slot.{Slot}
 use Rattle.file_store.specs.declared.descriptor_operation.Slot.TheVariants as slot
-use Rattle.file_store.specs.DescriptorMap.{Map, is_description_open, is_number_of, slot_at}
+use Rattle.file_store.specs.DescriptorMap.{with_slot, Map, is_description_open, is_number_of, slot_at}
 use Rattle.file_store.specs.declared.file.Description.{Description}
 use Rattle.file_store.specs.declared.file_operation.FileOp.{FileOp}
 use Rattle.file_store.specs.declared.file_operation.FileOp.TheVariants as op
@@ -95,30 +97,30 @@ use_keeps group o = step_way group (Keeps group) (ways_keep group) o
 
 -- A number that changes.
 
-abbrev pub with_slot : Store → ℕ → Slot → Store
-with_slot store number new = record store { descriptors = slice_set store.descriptors number new }
+abbrev pub store_with_slot : Store → ℕ → Slot → Store
+store_with_slot store number new = record store { descriptors = with_slot store.descriptors number new }
 
-pub slot_either : (map : Map) (number other : ℕ) (new : Slot) (P : Slot → Type 0) → (other ≡ number → P new) → P (slot_at map other) → P (slot_at (slice_set map number new) other)
-slot_either map number other new P first h = set_either map number other new slot.Free P first h
+pub slot_either : (map : Map) (number other : ℕ) (new : Slot) (P : Slot → Type 0) → (other ≡ number → P new) → P (slot_at map other) → P (slot_at (with_slot map number new) other)
+slot_either map number other new P first h = set_either map.slots number other new slot.Free P first h
 
-pub slot_other : (map : Map) (number other : ℕ) (new : Slot) → other ≢ number → slot_at (slice_set map number new) other ≡ slot_at map other
+pub slot_other : (map : Map) (number other : ℕ) (new : Slot) → other ≢ number → slot_at (with_slot map number new) other ≡ slot_at map other
 slot_other map number other new ne = slot_either map number other new (λ (s : Slot). s ≡ slot_at map other) (λ e. absurd (ne e)) refl
 
 -- the new one names what is there, and what the old one named has a number still
-pub tidy_slot : (store : Store) (number : ℕ) (new : Slot) → new ≢ slot.Reserved → ((b d : ℕ) → new ≡ slot.File b d → is_there store b d ≡ true) → ((b d : ℕ) → slot_at store.descriptors number ≡ slot.File b d → (n : ℕ) × (slot_at (slice_set store.descriptors number new) n ≡ slot.File b d)) → IsTidy store → IsTidy (with_slot store number new)
+pub tidy_slot : (store : Store) (number : ℕ) (new : Slot) → new ≢ slot.Reserved → ((b d : ℕ) → new ≡ slot.File b d → is_there store b d ≡ true) → ((b d : ℕ) → slot_at store.descriptors number ≡ slot.File b d → (n : ℕ) × (slot_at (with_slot store.descriptors number new) n ≡ slot.File b d)) → IsTidy store → IsTidy (store_with_slot store number new)
 tidy_slot store number new unreserved names still tidy = record {
   none_reserved = λ n. slot_either store.descriptors number n new (λ (s : Slot). s ≢ slot.Reserved) (λ e. unreserved) (tidy.none_reserved n);
   there = record { named = λ n b d. slot_either store.descriptors number n new (λ (s : Slot). s ≡ slot.File b d → is_there store b d ≡ true) (λ e. names b d) (tidy.there.named n b d) };
-  numbered = λ b d h. let (n, is) = tidy.numbered b d h in elim (same_id n number) as (λ _. (m : ℕ) × (slot_at (slice_set store.descriptors number new) m ≡ slot.File b d)) [
+  numbered = λ b d h. let (n, is) = tidy.numbered b d h in elim (same_id n number) as (λ _. (m : ℕ) × (slot_at (with_slot store.descriptors number new) m ≡ slot.File b d)) [
     | inl e ↦ still b d (ap (slot_at store.descriptors) (sym e) ∙ is)
     | inr ne ↦ (n, slot_other store.descriptors number n new ne ∙ is)
   ];
 }
 
 -- some number names a description that is open, and none one that is not
-pub number_of_open : (backend description : ℕ) (map : Map) → is_description_open backend description map ≡ true → (n : ℕ) × (slot_at map n ≡ slot.File backend description)
-number_of_open backend description [] h = absurd (false≢true h)
-number_of_open backend description (s ∷ map) h = by_slot (is_number_of backend description s) refl (number_of_open backend description map) where
+open_number : (backend description : ℕ) (slots : List Slot) → list_any (is_number_of backend description) slots ≡ true → (n : ℕ) × (unwrap_or (slice_get slots n) slot.Free ≡ slot.File backend description)
+open_number backend description [] h = absurd (false≢true h)
+open_number backend description (s ∷ slots) h = by_slot (is_number_of backend description s) refl (open_number backend description slots) where
   named : (s : Slot) → is_number_of backend description s ≡ true → s ≡ slot.File backend description
   named slot.Free e = absurd (false≢true e)
   named slot.Reserved e = absurd (false≢true e)
@@ -129,19 +131,25 @@ number_of_open backend description (s ∷ map) h = by_slot (is_number_of backend
     by_test true false p q e = absurd (false≢true (sym (ap (λ (t : Bool). t && (d == description)) p ∙ q) ∙ e))
     by_test false y p q e = absurd (false≢true (sym (ap (λ (t : Bool). t && (d == description)) p) ∙ e))
 
-  by_slot : (is : Bool) → is_number_of backend description s ≡ is → (is_description_open backend description map ≡ true → (n : ℕ) × (slot_at map n ≡ slot.File backend description)) → (n : ℕ) × (slot_at (s ∷ map) n ≡ slot.File backend description)
+  by_slot : (is : Bool) → is_number_of backend description s ≡ is → (list_any (is_number_of backend description) slots ≡ true → (n : ℕ) × (unwrap_or (slice_get slots n) slot.Free ≡ slot.File backend description)) → (n : ℕ) × (unwrap_or (slice_get (s ∷ slots) n) slot.Free ≡ slot.File backend description)
   by_slot true e rest = (zero, named s e)
-  by_slot false e rest = let (n, is) = rest (sym (ap (λ (t : Bool). t || is_description_open backend description map) e) ∙ h) in (suc n, is)
+  by_slot false e rest = let (n, is) = rest (sym (ap (λ (t : Bool). t || list_any (is_number_of backend description) slots) e) ∙ h) in (suc n, is)
+
+pub number_of_open : (backend description : ℕ) (map : Map) → is_description_open backend description map ≡ true → (n : ℕ) × (slot_at map n ≡ slot.File backend description)
+number_of_open backend description map h = open_number backend description map.slots h
 
 itself : (backend description : ℕ) → is_number_of backend description (slot.File backend description) ≡ true
 itself backend description =
     ap (λ (t : Bool). t && (description == description)) ((Decides-eqb backend backend).1 refl)
     ∙ (Decides-eqb description description).1 refl
 
+closed_none : (backend description : ℕ) (slots : List Slot) → list_any (is_number_of backend description) slots ≡ false → (n : ℕ) → unwrap_or (slice_get slots n) slot.Free ≢ slot.File backend description
+closed_none backend description [] h n e = cc
+closed_none backend description (s ∷ slots) h zero e = false≢true (sym h ∙ ap (λ (t : Bool). t || list_any (is_number_of backend description) slots) (ap (is_number_of backend description) e ∙ itself backend description))
+closed_none backend description (s ∷ slots) h (suc n) e = by_first (is_number_of backend description s) refl (λ closed. closed_none backend description slots closed n e) where
+  by_first : (is : Bool) → is_number_of backend description s ≡ is → (list_any (is_number_of backend description) slots ≡ false → ⊥) → ⊥
+  by_first true f rest = false≢true (sym h ∙ ap (λ (t : Bool). t || list_any (is_number_of backend description) slots) f)
+  by_first false f rest = rest (sym (ap (λ (t : Bool). t || list_any (is_number_of backend description) slots) f) ∙ h)
+
 pub none_of_closed : (backend description : ℕ) (map : Map) → is_description_open backend description map ≡ false → (n : ℕ) → slot_at map n ≢ slot.File backend description
-none_of_closed backend description [] h n e = cc
-none_of_closed backend description (s ∷ map) h zero e = false≢true (sym h ∙ ap (λ (t : Bool). t || is_description_open backend description map) (ap (is_number_of backend description) e ∙ itself backend description))
-none_of_closed backend description (s ∷ map) h (suc n) e = by_first (is_number_of backend description s) refl (λ closed. none_of_closed backend description map closed n e) where
-  by_first : (is : Bool) → is_number_of backend description s ≡ is → (is_description_open backend description map ≡ false → ⊥) → ⊥
-  by_first true f rest = false≢true (sym h ∙ ap (λ (t : Bool). t || is_description_open backend description map) f)
-  by_first false f rest = rest (sym (ap (λ (t : Bool). t || is_description_open backend description map) f) ∙ h)
+none_of_closed backend description map h n e = closed_none backend description map.slots h n e

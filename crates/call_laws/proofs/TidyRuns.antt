@@ -1,5 +1,12 @@
 -- Stores stay tidy along whole calls.
-use Rattle.std.proofs.Common.{◌≡◌, ◌≢◌, ℕ, ◌%◌, ◌&&◌, zero, suc, Bool, true, false, if◌then◌else◌, List, [], ◌∷◌, map, replicate, Option, None, Some, is_some, slice_get, slice_set, unwrap_or, refl, sym, ap, subst, ◌∙◌}
+use Rattle.file_store.specs.declared.descriptor_operation.FdOp.TheVariants as fd
+use Rattle.wf_core.specs.declared.errno.Errno.{Errno}
+use Rattle.path_walk.specs.declared.route.End.{End}
+use Rattle.path_walk.specs.declared.route.Spot.{Spot}
+use Rattle.path_walk.specs.declared.route.Route.{Route}
+use Rattle.path_walk.specs.declared.call.Base.{Base}
+use Rattle.path_walk.specs.declared.call.Base.TheVariants.{Cwd, Fd}
+use Rattle.std.proofs.Common.{◌≡◌, ◌≢◌, ℕ, ◌%◌, ◌&&◌, zero, suc, Bool, true, false, if◌then◌else◌, List, [], ◌∷◌, map, replicate, Option, None, Some, is_some, slice_get, unwrap_or, refl, sym, ap, subst, ◌∙◌, Result, Ok, Err}
 use Rattle.std.proofs.lemmas.Bool.{false≢true}
 use Rattle.wf_core.specs.Limits.{group_count, open_max, path_names_max, symloop_max}
 use Rattle.wf_core.specs.declared.errno.Errno.TheVariants.{Ebadf}
@@ -7,7 +14,7 @@ use Rattle.name_store.specs.NameTrees.{nstep}
 use Rattle.file_store.specs.declared.descriptor_operation.Slot.{Slot}
 use Rattle.file_store.specs.declared.descriptor_operation.Slot.TheVariants as slot
 use Rattle.file_store.specs.declared.descriptor_operation.FdAnswer.TheVariants as fd_answer
-use Rattle.file_store.specs.DescriptorMap.{Map, copyto_outcome_over, is_description_open, is_named, look_answer, lowest_free, opening, outcome_of, place_outcome, slot_at, take_outcome}
+use Rattle.file_store.specs.DescriptorMap.{with_slot, Map, copyto_outcome_over, is_description_open, is_named, look_answer, lowest_free, opening, outcome_of, place_outcome, slot_at, take_outcome, dstep}
 use Rattle.file_store.specs.declared.file_operation.FileOp.TheVariants.{Sizeof, Unlinked}
 use Rattle.file_store.specs.FileGroups.{description_at, opening as group_opening}
 use Rattle.path_walk.specs.declared.descriptor_call.DataCall.{DataCall}
@@ -18,8 +25,8 @@ use Rattle.path_walk.specs.declared.step.StepAnswer.TheVariants.{Answered}
 use Rattle.path_walk.specs.declared.call.Call.{Call}
 use Rattle.path_walk.specs.Store.{Store, group_at, names_at, with_names, opening_backend}
 use Rattle.path_walk.specs.PathMeaning.{resolve, root_of}
-use Rattle.path_walk.specs.Plans.{Plan, at_once}
-use Rattle.path_walk.specs.DescriptorCalls.{op_of_data, data_step_plan}
+use Rattle.path_walk.specs.Plans.{Plan, at_once, from_base, spot_in, walks_in}
+use Rattle.path_walk.specs.DescriptorCalls.{op_of_data, data_step_plan, enters}
 use Rattle.path_walk.specs.Calls.{plan_after, unlinked_by}
 use Rattle.path_walk.specs.Posix.{posix}
 use Rattle.path_walk.proofs.Plans.{Holds, any_end, each_call}
@@ -60,15 +67,15 @@ after_tidy store backend told (Some file) tidy = tidy_group store backend (file 
 -- Numbers.
 
 module _ (store : Store) (sound : IsSoundStore store) (tidy : IsTidy store) where
-  take_last : (number b d : ℕ) (still : Bool) → slot_at store.descriptors number ≡ slot.File b d → is_description_open b d (slice_set store.descriptors number slot.Free) ≡ still → IsTidy (after_numbers store (record { map = slice_set store.descriptors number slot.Free; answer = if still then fd_answer.Done else fd_answer.Last b d })).store
-  take_last number b d true named is = tidy_slot store number slot.Free (λ e. cc) (λ x y e. cc) (λ x y e. let same : slot.File b d ≡ slot.File x y = sym named ∙ e in subst (λ (s : Slot). (n : ℕ) × (slot_at (slice_set store.descriptors number slot.Free) n ≡ s)) same (number_of_open b d (slice_set store.descriptors number slot.Free) is)) tidy
+  take_last : (number b d : ℕ) (still : Bool) → slot_at store.descriptors number ≡ slot.File b d → is_description_open b d (with_slot store.descriptors number slot.Free) ≡ still → IsTidy (after_numbers store (record { map = with_slot store.descriptors number slot.Free; answer = if still then fd_answer.Done else fd_answer.Last b d })).store
+  take_last number b d true named is = tidy_slot store number slot.Free (λ e. cc) (λ x y e. cc) (λ x y e. let same : slot.File b d ≡ slot.File x y = sym named ∙ e in subst (λ (s : Slot). (n : ℕ) × (slot_at (with_slot store.descriptors number slot.Free) n ≡ s)) same (number_of_open b d (with_slot store.descriptors number slot.Free) is)) tidy
   take_last number b d false named is = tidy_released store number slot.Free b d sound tidy named is (λ e. cc) (λ x y e. cc)
 
   take_tidy : (number : ℕ) (named : Slot) → slot_at store.descriptors number ≡ named → IsTidy (after_numbers store (take_outcome store.descriptors number named)).store
   take_tidy number slot.Free is = tidy
   take_tidy number slot.Reserved is = tidy
   take_tidy number (slot.Dir b id) is = tidy_slot store number slot.Free (λ e. cc) (λ x y e. cc) (λ x y e. let clash : slot.Dir b id ≡ slot.File x y = sym is ∙ e in cc) tidy
-  take_tidy number (slot.File b d) is = take_last number b d (is_description_open b d (slice_set store.descriptors number slot.Free)) is refl
+  take_tidy number (slot.File b d) is = take_last number b d (is_description_open b d (with_slot store.descriptors number slot.Free)) is refl
 
   named_unreserved : (named : Slot) → is_named named ≡ true → named ≢ slot.Reserved
   named_unreserved named is e = false≢true (sym (ap is_named e) ∙ is)
@@ -83,7 +90,7 @@ module _ (store : Store) (sound : IsSoundStore store) (tidy : IsTidy store) wher
     new = slot_at store.descriptors number
 
     abbrev map_after : Map
-    map_after = slice_set store.descriptors target new
+    map_after = with_slot store.descriptors target new
 
     onto_last : (b d : ℕ) (still : Bool) → slot_at store.descriptors target ≡ slot.File b d → is_description_open b d map_after ≡ still → IsTidy (after_numbers store (record { map = map_after; answer = if still then fd_answer.Fd target else fd_answer.FdLast target b d })).store
     onto_last b d true named open_still = tidy_slot store target new (named_unreserved new is) (λ x y e. tidy.there.named number x y e) (λ x y e. let same : slot.File b d ≡ slot.File x y = sym named ∙ e in subst (λ (s : Slot). (n : ℕ) × (slot_at map_after n ≡ s)) same (number_of_open b d map_after open_still)) tidy
@@ -105,6 +112,20 @@ module _ (store : Store) (sound : IsSoundStore store) (tidy : IsTidy store) wher
 abbrev IsKept : ℕ → Plan → Type 0
 IsKept count p = KeepsTidy p
 
+from_tidy : (origin : Option Base) (next : Result Spot Errno → Plan) → ((start : Result Spot Errno) → KeepsTidy (next start)) → KeepsTidy (from_base origin next)
+from_tidy None next each = each (Ok (root_of 0))
+from_tidy (Some Cwd) next each = record { keeps = λ store sound tidy. (each (spot_in (Answered (DescriptorsAnswer (dstep store.descriptors fd.Cwd).answer)))).keeps store sound tidy }
+from_tidy (Some (Fd number)) next each = record { keeps = λ store sound tidy. (each (spot_in (Answered (DescriptorsAnswer (dstep store.descriptors (fd.Look number)).answer)))).keeps store sound tidy }
+
+walks_in_tidy : (route : Route) (next : Result End Errno → Plan) → ((end : Result End Errno) → KeepsTidy (next end)) → (start : Result Spot Errno) → KeepsTidy (walks_in route next start)
+walks_in_tidy route next each (Ok spot) = record { keeps = λ store sound tidy. (each (resolve store path_names_max route.parts route.manner route.slash symloop_max spot)).keeps store sound tidy }
+walks_in_tidy route next each (Err error) = each (Err error)
+
+-- no number changes
+enters_tidy : (start : Result Spot Errno) → KeepsTidy (enters start)
+enters_tidy (Ok there) = record { keeps = λ store sound tidy. record { none_reserved = tidy.none_reserved; there = record { named = tidy.there.named }; numbered = tidy.numbered } }
+enters_tidy (Err error) = record { keeps = λ store sound tidy. tidy }
+
 kept_holds : Holds IsKept (λ backend. Unit {0})
 kept_holds = record {
   over = λ count given. record { keeps = λ store sound tidy. tidy };
@@ -114,21 +135,23 @@ kept_holds = record {
   takes_numbers = λ number. record { keeps = λ store sound tidy. take_tidy store sound tidy number (slot_at store.descriptors number) refl };
   copies_numbers = λ number. record { keeps = λ store sound tidy. copy_tidy store sound tidy number (is_named (slot_at store.descriptors number)) (lowest_free store.descriptors) refl refl };
   copies_onto = λ number target. record { keeps = λ store sound tidy. copyto_tidy store sound tidy number target (is_named (slot_at store.descriptors number)) _ refl };
-  opens_paths = λ path flags. record { keeps = λ store sound tidy. opens_leave_tidy store sound tidy path flags };
-  along = λ count route next each. record { keeps = λ store sound tidy. let end = resolve store path_names_max route.parts route.manner route.slash symloop_max (root_of 0) in (each end (any_end end)).keeps store sound tidy };
+  opens_paths = λ at flags. record { keeps = λ store sound tidy. opens_leave_tidy store sound tidy at flags };
+  along = λ count origin route next each. from_tidy origin (walks_in route next) (walks_in_tidy route next (λ end. each end (any_end end)));
+  sets = λ count there so. enters_tidy (Ok there);
+  enters_numbers = λ number. from_tidy (Some (Fd number)) enters enters_tidy;
 }
 
-pub call_stays_tidy : (store : Store) (c : Call) → IsSoundStore store → IsTidy store → IsTidy (posix store c).store
-call_stays_tidy store c sound tidy = (each_call IsKept (λ backend. Unit {0}) kept_holds c).keeps store sound tidy
+pub call_stays_tidy : (version : ℕ) (store : Store) (c : Call) → IsSoundStore store → IsTidy store → IsTidy (posix version store c).store
+call_stays_tidy version store c sound tidy = (each_call IsKept (λ backend. Unit {0}) kept_holds version c).keeps store sound tidy
 
 -- Runs.
 
-tidy_from : (calls : List Call) (store : Store) → IsSoundStore store → IsTidy store → IsTidy (store_after store calls)
-tidy_from [] store sound tidy = tidy
-tidy_from (c ∷ calls) store sound tidy = tidy_from calls (posix store c).store (call_stays_sound store c sound) (call_stays_tidy store c sound tidy)
+tidy_from : (version : ℕ) (calls : List Call) (store : Store) → IsSoundStore store → IsTidy store → IsTidy (store_after version store calls)
+tidy_from version [] store sound tidy = tidy
+tidy_from version (c ∷ calls) store sound tidy = tidy_from version calls (posix version store c).store (call_stays_sound version store c sound) (call_stays_tidy version store c sound tidy)
 
 -- at first each number is free, and no description is there
-all_free : (count n : ℕ) → slot_at (replicate count slot.Free) n ≡ slot.Free
+all_free : (count n : ℕ) → unwrap_or (slice_get (replicate count slot.Free) n) slot.Free ≡ slot.Free
 all_free zero n = refl
 all_free (suc count) zero = refl
 all_free (suc count) (suc n) = all_free count n
@@ -153,4 +176,4 @@ opening_is_tidy mounts = record {
 }
 
 pub runs_are_tidy : RunsAreTidy
-runs_are_tidy mounts calls = tidy_from calls (opening_store mounts) (opening_is_sound mounts) (opening_is_tidy mounts)
+runs_are_tidy version mounts calls = tidy_from version calls (opening_store mounts) (opening_is_sound mounts) (opening_is_tidy mounts)

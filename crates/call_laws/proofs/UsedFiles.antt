@@ -1,4 +1,7 @@
 -- Files stay named along whole calls.
+use Rattle.path_walk.specs.declared.call.Base.{Base}
+use Rattle.path_walk.specs.declared.call.Base.TheVariants.{Fd}
+use Rattle.path_walk.specs.declared.act.PathAt.{PathAt}
 use Rattle.std.proofs.Common.{arith, ◌≡◌, ◌≢◌, ◌⊎◌, inl, inr, ℕ, ◌%◌, ◌<◌, zero, suc, true, List, [], ◌∷◌, Option, None, Some, is_some, Result, Ok, Err, slice_get, unwrap_or, refl, sym, ap, subst, ◌∙◌}
 use Rattle.wf_core.specs.Limits.{group_count}
 use Rattle.wf_core.specs.declared.errno.Errno.{Errno}
@@ -42,11 +45,11 @@ use Rattle.path_walk.specs.declared.call.Call.{Call}
 use Rattle.path_walk.specs.declared.call.Reply.{Reply}
 use Rattle.path_walk.specs.declared.call.Reply.TheVariants as reply
 use Rattle.path_walk.specs.Store.{Backend, Store, cstep, group_at, names_at, with_group, with_names}
-use Rattle.path_walk.specs.PathMeaning.{path_start, resolve, root_of, spot_beside, start_of, station}
+use Rattle.path_walk.specs.PathMeaning.{resolve, root_of, spot_beside, start_of, station, start_in}
 use Rattle.path_walk.specs.Walk.{node_in}
-use Rattle.path_walk.specs.Plans.{Plan, replies, steps, walks, at_once, cell_of_id, fails, fault_in, unless_fault}
-use Rattle.path_walk.specs.DescriptorCalls.{number_plan, op_of_data, releases, data_step_plan}
-use Rattle.path_walk.specs.OpenPlan.{absent_fault, added_plan, attached_by, attached_plan, description_in, directory_fault, drops, file_fault, fills, flags_fault, follows, found_plan, link_fault, looked_plan, looks, makes, meant_plan, mode_of, open_end, open_route, open_walks_max, opens_along, opens_by, opens_directory, opens_file, request_of, reserved_plan, route_to, unless_drops, unlinked_plan, unmakes}
+use Rattle.path_walk.specs.Plans.{Plan, replies, steps, walks, at_once, cell_of_id, fails, fault_in, unless_fault, from_base, op_of_base, spot_in, walks_in}
+use Rattle.path_walk.specs.DescriptorCalls.{number_plan, op_of_data, releases, data_step_plan, enters}
+use Rattle.path_walk.specs.OpenPlan.{absent_fault, added_plan, attached_by, attached_plan, description_in, directory_fault, drops, file_fault, fills, flags_fault, follows, found_plan, link_fault, looked_plan, looks, makes, meant_plan, mode_of, open_end, open_route, open_walks_max, opens_along, opens_by, opens_directory, opens_file, request_of, reserved_plan, route_to, unless_drops, unlinked_plan, unmakes, opens_in}
 use Rattle.path_walk.specs.Calls.{last_step, plan_after, unlinked_by}
 use Rattle.path_walk.specs.Posix.{posix}
 use Rattle.path_walk.proofs.Plans.{Holds, any_end, each_call}
@@ -426,26 +429,42 @@ unfolding opens_along
 along_keeps zero request from route = drops_keep request.number Eloop
 along_keeps (suc walks_left) request from route = walks_keep from route.route (open_end (opens_along walks_left) request route.name) (λ end. end_keeps (opens_along walks_left) (along_keeps walks_left) request route.name end)
 
-by_keeps : (number : ℕ) (flags : OpenFlags) (route : Result OpenRoute Errno) → KeepsNamed (opens_by number flags route)
-by_keeps number flags (Err error) = drops_keep number error
-by_keeps number flags (Ok route) = along_keeps open_walks_max (request_of number flags route.route.slash) path_start route
+from_keeps : (origin : Option Base) (next : Result Spot Errno → Plan) → ((start : Result Spot Errno) → KeepsNamed (next start)) → KeepsNamed (from_base origin next)
+from_keeps None next each = each (Ok (root_of 0))
+from_keeps (Some base) next each = numbers_keep (op_of_base base) _ (λ told. each (spot_in told))
 
-reserved_keeps : (flags : OpenFlags) (route : Result OpenRoute Errno) (told : StepAnswer) → KeepsNamed (reserved_plan flags route told)
-reserved_keeps flags route (Answered (NamesAnswer given)) = reply_keeps _
-reserved_keeps flags route (Answered (FilesAnswer given)) = reply_keeps _
-reserved_keeps flags route (Answered (DescriptorsAnswer (fd_answer.Fd given))) = by_keeps given flags route
-reserved_keeps flags route (Answered (DescriptorsAnswer (fd_answer.File home named))) = reply_keeps _
-reserved_keeps flags route (Answered (DescriptorsAnswer (fd_answer.Dir home named))) = reply_keeps _
-reserved_keeps flags route (Answered (DescriptorsAnswer fd_answer.Done)) = reply_keeps _
-reserved_keeps flags route (Answered (DescriptorsAnswer (fd_answer.Last home named))) = reply_keeps _
-reserved_keeps flags route (Answered (DescriptorsAnswer (fd_answer.FdLast given home named))) = reply_keeps _
-reserved_keeps flags route (Answered (DescriptorsAnswer (fd_answer.Fault error))) = reply_keeps _
-reserved_keeps flags route Cancelled = reply_keeps _
-reserved_keeps flags route Closed = reply_keeps _
+walks_in_keep : (route : Route) (next : Result End Errno → Plan) → ((end : Result End Errno) → KeepsNamed (next end)) → (start : Result Spot Errno) → KeepsNamed (walks_in route next start)
+walks_in_keep route next each (Ok spot) = walks_keep (start_in spot) route next each
+walks_in_keep route next each (Err error) = each (Err error)
 
-opens_keep : (path : List ℕ) (flags : OpenFlags) (fault : Option Errno) → KeepsNamed (unless_fault fault (steps DescriptorsCell (DescriptorsOp fd.Reserve) (reserved_plan flags (open_route path))))
-opens_keep path flags (Some error) = reply_keeps _
-opens_keep path flags None = numbers_keep fd.Reserve (reserved_plan flags (open_route path)) (λ told. reserved_keeps flags (open_route path) told)
+enters_keep : (start : Result Spot Errno) → KeepsNamed (enters start)
+enters_keep (Ok there) = numbers_keep (fd.Setcwd there.backend there.directory) _ (λ told. reply_keeps _)
+enters_keep (Err error) = reply_keeps _
+
+in_keeps : (request : OpenRequest) (route : OpenRoute) (start : Result Spot Errno) → KeepsNamed (opens_in request route start)
+in_keeps request route (Ok spot) = along_keeps open_walks_max request (start_in spot) route
+in_keeps request route (Err error) = drops_keep request.number error
+
+by_keeps : (number : ℕ) (flags : OpenFlags) (origin : Option Base) (route : Result OpenRoute Errno) → KeepsNamed (opens_by number flags origin route)
+by_keeps number flags origin (Err error) = drops_keep number error
+by_keeps number flags origin (Ok route) = from_keeps origin (opens_in (request_of number flags route.route.slash) route) (in_keeps (request_of number flags route.route.slash) route)
+
+reserved_keeps : (flags : OpenFlags) (origin : Option Base) (route : Result OpenRoute Errno) (told : StepAnswer) → KeepsNamed (reserved_plan flags origin route told)
+reserved_keeps flags origin route (Answered (NamesAnswer given)) = reply_keeps _
+reserved_keeps flags origin route (Answered (FilesAnswer given)) = reply_keeps _
+reserved_keeps flags origin route (Answered (DescriptorsAnswer (fd_answer.Fd given))) = by_keeps given flags origin route
+reserved_keeps flags origin route (Answered (DescriptorsAnswer (fd_answer.File home named))) = reply_keeps _
+reserved_keeps flags origin route (Answered (DescriptorsAnswer (fd_answer.Dir home named))) = reply_keeps _
+reserved_keeps flags origin route (Answered (DescriptorsAnswer fd_answer.Done)) = reply_keeps _
+reserved_keeps flags origin route (Answered (DescriptorsAnswer (fd_answer.Last home named))) = reply_keeps _
+reserved_keeps flags origin route (Answered (DescriptorsAnswer (fd_answer.FdLast given home named))) = reply_keeps _
+reserved_keeps flags origin route (Answered (DescriptorsAnswer (fd_answer.Fault error))) = reply_keeps _
+reserved_keeps flags origin route Cancelled = reply_keeps _
+reserved_keeps flags origin route Closed = reply_keeps _
+
+opens_keep : (at : PathAt) (flags : OpenFlags) (fault : Option Errno) → KeepsNamed (unless_fault fault (steps DescriptorsCell (DescriptorsOp fd.Reserve) (reserved_plan flags at.base (open_route at.path))))
+opens_keep at flags (Some error) = reply_keeps _
+opens_keep at flags None = numbers_keep fd.Reserve (reserved_plan flags at.base (open_route at.path)) (λ told. reserved_keeps flags at.base (open_route at.path) told)
 
 -- Calls.
 
@@ -461,13 +480,15 @@ kept_holds = record {
   takes_numbers = λ number. numbers_keep (fd.Take number) number_plan (λ told. number_keeps told);
   copies_numbers = λ number. numbers_keep (fd.Copy number) number_plan (λ told. number_keeps told);
   copies_onto = λ number target. numbers_keep (fd.Copyto number target) number_plan (λ told. number_keeps told);
-  opens_paths = λ path flags. opens_keep path flags (flags_fault flags);
-  along = λ count route next each_end. walks_keep path_start route next (λ end. each_end end (any_end end));
+  opens_paths = λ at flags. opens_keep at flags (flags_fault flags);
+  along = λ count origin route next each_end. from_keeps origin (walks_in route next) (walks_in_keep route next (λ end. each_end end (any_end end)));
+  sets = λ count there so. enters_keep (Ok there);
+  enters_numbers = λ number. from_keeps (Some (Fd number)) enters enters_keep;
 }
 
-named_from : (calls : List Call) (store : Store) → IsSoundStore store → AreNamed store → AreNamed (store_after store calls)
-named_from [] store sound named = named
-named_from (c ∷ calls) store sound named = named_from calls (posix store c).store (call_stays_sound store c sound) ((each_call IsKept (λ backend. Unit {0}) kept_holds c).keeps store sound named)
+named_from : (version : ℕ) (calls : List Call) (store : Store) → IsSoundStore store → AreNamed store → AreNamed (store_after version store calls)
+named_from version [] store sound named = named
+named_from version (c ∷ calls) store sound named = named_from version calls (posix version store c).store (call_stays_sound version store c sound) ((each_call IsKept (λ backend. Unit {0}) kept_holds version c).keeps store sound named)
 
 -- at first there is no file
 no_file : (mounts : List (List (List ℕ × ℕ))) (b g q : ℕ) (row : File) → g < group_count → file_at (group_at (opening_store mounts) b g) q ≡ Some row → ⊥
@@ -480,10 +501,10 @@ no_file (one ∷ mounts) zero (suc (suc (suc (suc g)))) q row low at = absurd (o
 no_file (one ∷ mounts) (suc b) g q row low at = no_file mounts b g q row low at
 
 pub files_are_used : FilesAreUsed
-files_are_used mounts calls backend group id file low at =
-    let store : Store = store_after (opening_store mounts) calls in
-    let sound : IsSoundStore store = runs_are_sound mounts calls in
-    let named : AreNamed store = named_from calls (opening_store mounts) (opening_is_sound mounts) (record { each = λ b g q row low at linked. absurd (no_file mounts b g q row low at) }) in
+files_are_used version mounts calls backend group id file low at =
+    let store : Store = store_after version (opening_store mounts) calls in
+    let sound : IsSoundStore store = runs_are_sound version mounts calls in
+    let named : AreNamed store = named_from version calls (opening_store mounts) (opening_is_sound mounts) (record { each = λ b g q row low at linked. absurd (no_file mounts b g q row low at) }) in
     record {
       named = λ linked. elim (named.each backend group id file low at linked) as (λ _. IsNamed (names_at store backend) id) [
         | inl is ↦ is

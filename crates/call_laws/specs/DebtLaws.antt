@@ -160,7 +160,7 @@ AreOrdinary (step ∷ steps) = IsOrdinaryOutcome step.op step.outcome × AreOrdi
 
 -- whatever other calls do between its steps, a call that has ended owes nothing
 abbrev pub DebtsArePaid : Type 0
-DebtsArePaid = (call : Call) (steps : List Step) (reply : Reply) → Takes (program call) steps reply → AreOrdinary steps → debt_along no_debt steps ≡ no_debt
+DebtsArePaid = (version : ℕ) (call : Call) (steps : List Step) (reply : Reply) → Takes (program version call) steps reply → AreOrdinary steps → debt_along no_debt steps ≡ no_debt
 
 -- at most one number, one description and one file
 pub record IsSmall (debt : Debt) : Type 0 where
@@ -170,4 +170,4 @@ pub record IsSmall (debt : Debt) : Type 0 where
 
 -- whatever its steps are told, also where the last one finds no memory, a call owes no more at any time
 abbrev pub DebtsAreSmall : Type 0
-DebtsAreSmall = (call : Call) (steps : List Step) → Begins (program call) steps → IsSmall (debt_along no_debt steps)
+DebtsAreSmall = (version : ℕ) (call : Call) (steps : List Step) → Begins (program version call) steps → IsSmall (debt_along no_debt steps)

@@ -16,4 +16,4 @@ pub record DescriptionsAreThere (store : Store) : Type 0 where
 
 -- a call that replies an error leaves the store as it was, with its offsets and its numbers
 abbrev pub ErrorsChangeNothing : Type 0
-ErrorsChangeNothing = (store : Store) (call : Call) (error : Errno) → DescriptionsAreThere store → (posix store call).reply ≡ Fault error → (posix store call).store ≡ store
+ErrorsChangeNothing = (version : ℕ) (store : Store) (call : Call) (error : Errno) → DescriptionsAreThere store → (posix version store call).reply ≡ Fault error → (posix version store call).store ≡ store

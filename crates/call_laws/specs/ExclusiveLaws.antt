@@ -16,10 +16,11 @@ use Rattle.path_walk.specs.declared.step.CellId.TheVariants.{Names as NamesCell}
 use Rattle.path_walk.specs.declared.step.StoreOp.{StoreOp}
 use Rattle.path_walk.specs.declared.step.StoreOp.TheVariants.{Names as NamesOp}
 use Rattle.path_walk.specs.declared.step.StepAnswer.{StepAnswer}
-use Rattle.path_walk.specs.declared.call.Call.TheVariants.{Open}
+use Rattle.path_walk.specs.declared.call.Base.{Base}
+use Rattle.path_walk.specs.declared.call.Call.TheVariants.{Open, Openat}
 use Rattle.path_walk.specs.declared.call.Reply.TheVariants.{Fault, Fd}
 use Rattle.path_walk.specs.Store.{Store, cstep, names_at}
-use Rattle.path_walk.specs.Programs.{Step, Takes, replied}
+use Rattle.path_walk.specs.Programs.{Program, Step, Takes, replied}
 use Rattle.path_walk.specs.Paths.{slash_of}
 use Rattle.path_walk.specs.OpenPlan.{is_exclusive}
 use Rattle.path_walk.specs.Posix.{posix, program}
@@ -37,9 +38,13 @@ abbrev pub Enters : List Step → Type 0
 Enters [] = ⊥
 Enters (step ∷ steps) = EntersBy step.op step.outcome ⊎ Enters steps
 
--- whatever it was told, a call with `creat` and `excl` that replies a number has given a file its entry by a step of its own
-abbrev pub ExclusivesMake : Type 0
-ExclusivesMake = (path : List ℕ) (flags : OpenFlags) (steps : List Step) (number : ℕ) → is_exclusive flags ≡ true → Takes (program (Open path flags)) steps (Fd number) → Enters steps
+-- whatever it was told, a program with `creat` and `excl` that replies a number has given a file its entry by a step of its own
+abbrev pub MakesItself : OpenFlags → Program → Type 0
+MakesItself flags p = (steps : List Step) (number : ℕ) → is_exclusive flags ≡ true → Takes p steps (Fd number) → Enters steps
+
+pub record ExclusivesMake : Type 0 where
+  pub opens : (version : ℕ) (path : List ℕ) (flags : OpenFlags) → MakesItself flags (program version (Open path flags))
+  pub openat : (version : ℕ) (base : Base) (path : List ℕ) (flags : OpenFlags) → MakesItself flags (program version (Openat base path flags))
 
 -- What others find.
 
@@ -70,4 +75,4 @@ EntriesAreTaken = (store : Store) (backend id : ℕ) (name : List ℕ) (first se
 
 -- and where something stands under the name, also a link, such a call replies EEXIST and changes nothing
 abbrev pub ExclusivesRefuse : Type 0
-ExclusivesRefuse = (store : Store) (path : List ℕ) (flags : OpenFlags) (number : ℕ) (here : Spot) (name : List ℕ) (node : Node) → ReachesEntry store path flags number here name (Some node) → is_exclusive flags ≡ true → slash_of path ≡ false → posix store (Open path flags) ≡ replied store (Fault Eexist)
+ExclusivesRefuse = (version : ℕ) (store : Store) (path : List ℕ) (flags : OpenFlags) (number : ℕ) (here : Spot) (name : List ℕ) (node : Node) → ReachesEntry version store path flags number here name (Some node) → is_exclusive flags ≡ true → slash_of path ≡ false → posix version store (Open path flags) ≡ replied store (Fault Eexist)

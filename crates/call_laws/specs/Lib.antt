@@ -8,3 +8,6 @@ pub mod DebtLaws
 pub mod RunLaws
 pub mod LastLaws
 pub mod ExclusiveLaws
+pub mod StartLaws
+pub mod CurrentLaws
+pub mod RemovedLaws

@@ -77,15 +77,15 @@ IsDirOrFault (Fault error) = Unit {0}
 IsDirOrFault reply = ⊥
 
 -- a path that ends in a slash names a directory or nothing
-pub record AsksForDirectory (store : Store) (path : List ℕ) : Type 0 where
-  pub stat : IsDirOrFault (posix store (Stat path)).reply
-  pub lstat : IsDirOrFault (posix store (Lstat path)).reply
-  pub readlink : IsFault (posix store (Readlink path)).reply
-  pub unlink : IsFault (posix store (Unlink path)).reply
-  pub symlink : (text : List ℕ) → IsFault (posix store (Symlink text path)).reply
+pub record AsksForDirectory (version : ℕ) (store : Store) (path : List ℕ) : Type 0 where
+  pub stat : IsDirOrFault (posix version store (Stat path)).reply
+  pub lstat : IsDirOrFault (posix version store (Lstat path)).reply
+  pub readlink : IsFault (posix version store (Readlink path)).reply
+  pub unlink : IsFault (posix version store (Unlink path)).reply
+  pub symlink : (text : List ℕ) → IsFault (posix version store (Symlink text path)).reply
 
 abbrev pub SlashesAskForDirectories : Type 0
-SlashesAskForDirectories = (store : Store) (path : List ℕ) → slash_of path ≡ true → AsksForDirectory store path
+SlashesAskForDirectories = (version : ℕ) (store : Store) (path : List ℕ) → slash_of path ≡ true → AsksForDirectory version store path
 
 -- Lists.
 
@@ -94,19 +94,19 @@ names_in (Names names) = names
 names_in reply = []
 
 -- the names of so many lists, each from where the one before ended
-abbrev pub names_listed : ℕ → Store → List ℕ → ℕ → List (List ℕ)
-names_listed zero store path start = []
-names_listed (suc lists) store path start = names_in (posix store (ListCall path start)).reply ++ names_listed lists store path (start + list_max)
+abbrev pub names_listed : ℕ → ℕ → Store → List ℕ → ℕ → List (List ℕ)
+names_listed version zero store path start = []
+names_listed version (suc lists) store path start = names_in (posix version store (ListCall path start)).reply ++ names_listed version lists store path (start + list_max)
 
 -- a list is of the directory's names from that position on, and changes nothing. Lists from 0, from `list_max` and so on
 -- are of all names, each once, in the order of their bytes
-pub record ListsNames (store : Store) (path : List ℕ) (here : Spot) (directory : Listing) : Type 0 where
-  pub one : (start : ℕ) → posix store (ListCall path start) ≡ replied store (Names (take list_max (drop start (keys_of directory.entries))))
-  pub all : (lists : ℕ) → length (keys_of directory.entries) ≤ lists * list_max → names_listed lists store path 0 ≡ keys_of directory.entries
+pub record ListsNames (version : ℕ) (store : Store) (path : List ℕ) (here : Spot) (directory : Listing) : Type 0 where
+  pub one : (start : ℕ) → posix version store (ListCall path start) ≡ replied store (Names (take list_max (drop start (keys_of directory.entries))))
+  pub all : (lists : ℕ) → length (keys_of directory.entries) ≤ lists * list_max → names_listed version lists store path 0 ≡ keys_of directory.entries
   pub order : HasNamesInOrder store here → IsStrictlySortedBy byte_order (keys_of directory.entries)
 
 abbrev pub ListNamesEachOnce : Type 0
-ListNamesEachOnce = (store : Store) (path : List ℕ) (there : Station) (directory : Listing) → path_fault path ≡ None → path_end store Follows path ≡ Ok (Directory there) → directory_at store there.spot ≡ Some directory → ListsNames store path there.spot directory
+ListNamesEachOnce = (version : ℕ) (store : Store) (path : List ℕ) (there : Station) (directory : Listing) → path_fault path ≡ None → path_end version store Follows path ≡ Ok (Directory there) → directory_at store there.spot ≡ Some directory → ListsNames version store path there.spot directory
 
 -- Moves.
 
@@ -123,13 +123,13 @@ pub record IsOneEntry (old new : Store) (from : Spot) (name : List ℕ) (to : Sp
   pub same : new ≡ old
 
 -- both paths name entries of one backend, and the one became the other unless both are one
-pub record EntryRenamed (old new : Store) (path new_path : List ℕ) : Type 0 where
+pub record EntryRenamed (version : ℕ) (old new : Store) (path new_path : List ℕ) : Type 0 where
   pub from : Spot
   pub name : List ℕ
-  pub names : NamesEntry old path from name
+  pub names : NamesEntry version old path from name
   pub to : Spot
   pub new_name : List ℕ
-  pub new_names : NamesEntry old new_path to new_name
+  pub new_names : NamesEntry version old new_path to new_name
   pub beside : from.backend ≡ to.backend
   -- a slash at the end of either path asks for a directory
   pub slash : slash_of path || slash_of new_path ≡ true → (child : ℕ) × (node_of old from name ≡ Some (Dir child))
@@ -137,4 +137,4 @@ pub record EntryRenamed (old new : Store) (path new_path : List ℕ) : Type 0 wh
 
 -- after `rename` the new name is what the old one was, and the old one is no more, unless both are one entry
 abbrev pub RenameMoves : Type 0
-RenameMoves = (store : Store) (path new_path : List ℕ) → IsDone store (Rename path new_path) → EntryRenamed store (posix store (Rename path new_path)).store path new_path
+RenameMoves = (version : ℕ) (store : Store) (path new_path : List ℕ) → IsDone version store (Rename path new_path) → EntryRenamed version store (posix version store (Rename path new_path)).store path new_path

@@ -1,5 +1,5 @@
 -- What holds of every store that calls lead to, each taken at once, from the store before the first call.
-use Rattle.std.specs.Prelude.{◌≡◌, ◌≢◌, ℕ, ◌%◌, ◌<◌, true, false, List, [], fold, map, Some, IsSome, slice_get}
+use Rattle.std.specs.Prelude.{◌≡◌, ◌≢◌, ℕ, ◌%◌, ◌<◌, true, false, List, fold, map, Some, IsSome, slice_get}
 use Rattle.wf_core.specs.Limits.{group_count}
 use Rattle.name_store.specs.declared.operation.Node.TheVariants.{File as FileNode}
 use Rattle.name_store.specs.Sound.{IsSound, node_at}
@@ -18,8 +18,8 @@ abbrev pub opening_store : List (List (List ℕ × ℕ)) → Store
 opening_store mounts = record { backends = map opening_backend mounts; descriptors = descriptors_opening }
 
 -- the store after calls, one after another
-abbrev pub store_after : Store → List Call → Store
-store_after store calls = fold (λ before call. (posix before call).store) store calls
+abbrev pub store_after : ℕ → Store → List Call → Store
+store_after version store calls = fold (λ before call. (posix version before call).store) store calls
 
 -- the names of a backend are a tree, and its groups are all there and sound
 pub record IsSoundBackend (backend : Backend) : Type 0 where
@@ -30,7 +30,7 @@ abbrev pub IsSoundStore : Store → Type 0
 IsSoundStore store = (number : ℕ) (backend : Backend) → slice_get store.backends number ≡ Some backend → IsSoundBackend backend
 
 abbrev pub RunsAreSound : Type 0
-RunsAreSound = (mounts : List (List (List ℕ × ℕ))) (calls : List Call) → IsSoundStore (store_after (opening_store mounts) calls)
+RunsAreSound = (version : ℕ) (mounts : List (List (List ℕ × ℕ))) (calls : List Call) → IsSoundStore (store_after version (opening_store mounts) calls)
 
 -- between whole calls no number is reserved, each description that a number names is there, and each description that is
 -- there has a number
@@ -40,7 +40,7 @@ pub record IsTidy (store : Store) : Type 0 where
   pub numbered : (backend description : ℕ) → IsSome (description_at (group_at store backend (description % group_count)) description) → (number : ℕ) × (slot_at store.descriptors number ≡ slot.File backend description)
 
 abbrev pub RunsAreTidy : Type 0
-RunsAreTidy = (mounts : List (List (List ℕ × ℕ))) (calls : List Call) → IsTidy (store_after (opening_store mounts) calls)
+RunsAreTidy = (version : ℕ) (mounts : List (List (List ℕ × ℕ))) (calls : List Call) → IsTidy (store_after version (opening_store mounts) calls)
 
 -- a file that is there is named by an entry of its backend, or is open; one that is linked is named
 pub record FileIsUsed (store : Store) (backend group id : ℕ) (file : File) : Type 0 where
@@ -48,4 +48,4 @@ pub record FileIsUsed (store : Store) (backend group id : ℕ) (file : File) : T
   pub opened : file.linked ≡ false → is_open (group_at store backend group).descriptions id ≡ true
 
 abbrev pub FilesAreUsed : Type 0
-FilesAreUsed = (mounts : List (List (List ℕ × ℕ))) (calls : List Call) (backend group id : ℕ) (file : File) → group < group_count → file_at (group_at (store_after (opening_store mounts) calls) backend group) id ≡ Some file → FileIsUsed (store_after (opening_store mounts) calls) backend group id file
+FilesAreUsed = (version : ℕ) (mounts : List (List (List ℕ × ℕ))) (calls : List Call) (backend group id : ℕ) (file : File) → group < group_count → file_at (group_at (store_after version (opening_store mounts) calls) backend group) id ≡ Some file → FileIsUsed (store_after version (opening_store mounts) calls) backend group id file

@@ -20,7 +20,7 @@ module _ {S O A : Type 0} where
   log_there (x ∷ rs) zero r e = ap (λ (z : CellRecord S O A). z.entries.items) (some-injective x r e)
   log_there (x ∷ rs) (suc c) r e = log_there rs c r e
 
-module _ {S O A K C R : Type 0} (after : S → O → S) (reply : S → O → A) (kind : S → K) (allows : K → O → A → Type 0) (Walk : C → List (Known O A) → R → Type 0) where
+module _ {S O A K C R : Type 0} (after : S → O → S) (reply : S → O → A) (kind : S → K) (allows : K → O → A → Type 0) (Walk : List R → C → List (Known O A) → R → Type 0) where
   pub cells_keep : (openings : List S) (views : List (View S O A)) (rs : List (CellRecord S O A)) (opening last : ℕ → S) → AreHistories after reply kind allows openings views rs
       → ((c : ℕ) (s : S) → get_elem? openings c ≡ some s → opening c ≡ s) → ((c : ℕ) (r : CellRecord S O A) → get_elem? rs c ≡ some r → last c ≡ r.state)
       → CellsAreLegal after reply Walk opening (map own_in views) (log_of rs) last (length rs)

@@ -1,5 +1,5 @@
 -- The law: scripts that keep their order, and legal cells, make one lawful run.
-use Rattle.std.proofs.Common.{◌≡◌, ℕ, zero, suc, ◌+◌, ◌<◌, ◌≤◌, ◌⊎◌, ◌==◌, Bool, true, false, cond, List, [], ◌∷◌, length, map, refl, sym, ap, ◌∙◌, subst, ⊎_elim, inl, inr, arith, eq-eqb, ne_eqb, lt_of_not-le}
+use Rattle.std.proofs.Common.{◌≡◌, ℕ, zero, suc, ◌+◌, ◌<◌, ◌≤◌, ◌⊎◌, ◌==◌, Bool, true, false, cond, List, [], ◌∷◌, length, map, refl, sym, ap, ◌∙◌, subst, ⊎_elim, inl, inr, arith, eq-eqb, ne_eqb, lt_of_not-le, take}
 use Rattle.std.specs.List.{filter, count_by, range_with_len}
 use Rattle.std.proofs.lemmas.List.{length-map}
 use Rattle.std.proofs.lemmas.List.Sums.{sum_by-append}
@@ -67,7 +67,7 @@ module _ {X Y : Type 0} (f : X → Y) where
   from_mapped key key' same b [] h = tt
   from_mapped key key' same b (x ∷ xs) h = (subst (λ k. b ≤ k) (sym (same x)) h.0, subst (λ k. From key' (k + 1) (map f xs)) (sym (same x)) (from_mapped key key' same (key x + 1) xs h.1))
 
-module _ {S O A C R : Type 0} (after : S → O → S) (reply : S → O → A) (Walk : C → List (Known O A) → R → Type 0) (opening : ℕ → S) (scripts : List (List C)) (replies : List (List R)) (owns : List (List (Known O A)))
+module _ {S O A C R : Type 0} (after : S → O → S) (reply : S → O → A) (Walk : List R → C → List (Known O A) → R → Type 0) (opening : ℕ → S) (scripts : List (List C)) (replies : List (List R)) (owns : List (List (Known O A)))
     (logs : ℕ → List (Entry O A)) (last : ℕ → S) (cells : ℕ) (steps : List (Known O A))
     (sk : ScriptsKeepOrder after reply Walk scripts replies owns) (ck : CellsAreLegal after reply Walk opening owns logs last cells) (hist : IsHistory logs cells steps) where
   abbrev Kn : Type 0
@@ -101,7 +101,7 @@ module _ {S O A C R : Type 0} (after : S → O → S) (reply : S → O → A) (W
       let is : m.0.cell ≡ c = eq_of m.0.cell c f.1 in let g = hist.from f.0.0 m.0 f.0.1 in subst (λ (z : ℕ × Entry O A). HasMember (logs z.0) z.1) (λ i. (is i, m.2 i)) g.1)
       (λ e h. has_mapped (λ (k : Kn). k.entry) (filter (λ (k : Kn). k.cell == c) steps) (record { cell = c; entry = e }) (filtered_has (λ (k : Kn). k.cell == c) steps (record { cell = c; entry = e }) (hist.back c e near h) (eq-eqb c c refl)))
 
-  script_of : (t : ℕ) (ks : List Kn) → get_elem? owns t ≡ some ks → (cs : List C) × (rs : List R) × (get_elem? scripts t ≡ some cs) × (get_elem? replies t ≡ some rs) × AreCallsMade Walk t 1 cs rs ks
+  script_of : (t : ℕ) (ks : List Kn) → get_elem? owns t ≡ some ks → (cs : List C) × (rs : List R) × (get_elem? scripts t ≡ some cs) × (get_elem? replies t ≡ some rs) × AreCallsMade Walk t 1 [] cs rs ks
   script_of t ks at = let b = at_below owns t ks at in let co = sk.count_owns in let cr = sk.count_replies in let s = at_there scripts t (omega arith) in let r = at_there replies t (omega arith) in
       (s.0, r.0, s.1, r.1, sk.made t s.0 r.0 ks s.1 r.1 at)
 
@@ -121,29 +121,29 @@ module _ {S O A C R : Type 0} (after : S → O → S) (reply : S → O → A) (W
       hist.back k.cell k.entry near (has_filtered (λ (e : Entry O A). e.runner == t) (logs k.cell) k.entry in_runner).0
 
   thread_is : (k : Kn) (ks : List Kn) → get_elem? owns k.entry.runner ≡ some ks → HasMember ks k → k.entry.caller.thread ≡ k.entry.runner
-  thread_is k ks at h = let s = script_of k.entry.runner ks at in (of_script Walk k.entry.runner 1 s.0 s.1 ks s.4 k h).1
+  thread_is k ks at h = let s = script_of k.entry.runner ks at in (of_script Walk k.entry.runner 1 [] s.0 s.1 ks s.4 k h).1
 
   of_thread_is : (t : ℕ) (ks : List Kn) → get_elem? owns t ≡ some ks → steps_of_thread t steps ≡ ks
   of_thread_is t ks at = same_list key 0 0 (steps_of_thread t steps) ks (from_filter key (λ (k : Kn). k.entry.caller.thread == t) 0 steps strict) (from_pairs key 0 ks (λ k h. omega arith) (sk.rising t ks at))
       (λ k h. let f = has_filtered (λ (z : Kn). z.entry.caller.thread == t) steps k h in let o = owned k f.0 in let is : k.entry.runner ≡ t = sym (thread_is k o.0 o.1 o.2) ∙ eq_of k.entry.caller.thread t f.1 in
       subst (λ (l : List Kn). HasMember l k) (some-injective o.0 ks (sym o.1 ∙ (ap (get_elem? owns) is ∙ at))) o.2)
-      (λ k h. let s = script_of t ks at in filtered_has (λ (z : Kn). z.entry.caller.thread == t) steps k (is_step t ks at k h) (eq-eqb k.entry.caller.thread t (of_script Walk t 1 s.0 s.1 ks s.4 k h).1))
+      (λ k h. let s = script_of t ks at in filtered_has (λ (z : Kn). z.entry.caller.thread == t) steps k (is_step t ks at k h) (eq-eqb k.entry.caller.thread t (of_script Walk t 1 [] s.0 s.1 ks s.4 k h).1))
 
   pub lawful : IsLawfulRun after reply Walk opening scripts replies steps last cells
   lawful = record {
     one_reply = λ t cs at. let b = at_below scripts t cs at in let co = sk.count_owns in let cr = sk.count_replies in let r = at_there replies t (omega arith) in let o = at_there owns t (omega arith) in
-        (r.0, r.1, as_many Walk t 1 cs r.0 o.0 (sk.made t cs r.0 o.0 at r.1 o.1));
+        (r.0, r.1, as_many Walk t 1 [] cs r.0 o.0 (sk.made t cs r.0 o.0 at r.1 o.1));
     stamps_are = stamps_range ∙ ap (range_with_len 0) (sym long);
     answers = all_answer after reply opening steps (λ c. ⊎_elim (λ (near : c < cells). subst (Replays after reply (opening c)) (sym (of_cell c near)) (ck.answers c near))
         (λ (far : cells ≤ c). subst (Replays after reply (opening c)) (sym (ap (map (λ (k : Kn). k.entry)) (none_filtered (λ (k : Kn). k.cell == c) steps (λ k h. let f = (hist.from h.0 k h.1).0 in ne_eqb k.cell c (λ e. omega arith))))) tt) (near_or_far c cells));
     last_is = λ c near. store_is after reply opening steps c ∙ (ap (state_after after (opening c)) (of_cell c near) ∙ sym (ck.last_is c near));
-    callers = λ i k at. let o = owned k (i, at) in let s = script_of k.entry.runner o.0 o.1 in let f = of_script Walk k.entry.runner 1 s.0 s.1 o.0 s.4 k o.2 in let a = f.2 in let b = f.3 in
+    callers = λ i k at. let o = owned k (i, at) in let s = script_of k.entry.runner o.0 o.1 in let f = of_script Walk k.entry.runner 1 [] s.0 s.1 o.0 s.4 k o.2 in let a = f.2 in let b = f.3 in
         (s.0, ap (get_elem? scripts) f.1 ∙ s.2, omega arith, omega arith, sym f.1);
     walks = λ t n cs rs c r at_cs at_rs at_c at_r. let b = at_below scripts t cs at_cs in let co = sk.count_owns in let o = at_there owns t (omega arith) in let number : 1 + n ≡ n + 1 = omega arith in
-        subst (λ (l : List Kn). Walk c (steps_of_call (n + 1) l) r) (sym (of_thread_is t o.0 o.1)) (subst (λ (q : ℕ). Walk c (steps_of_call q o.0) r) number (walk_of Walk t 1 n cs rs o.0 c r (sk.made t cs rs o.0 at_cs at_rs o.1) at_c at_r));
+        subst (λ (l : List Kn). Walk (take n rs) c (steps_of_call (n + 1) l) r) (sym (of_thread_is t o.0 o.1)) (subst (λ (q : ℕ). Walk (take n rs) c (steps_of_call q o.0) r) number (walk_of Walk t 1 n [] cs rs o.0 c r (sk.made t cs rs o.0 at_cs at_rs o.1) at_c at_r));
     order = λ i j k l at_k at_l same less. let ok = owned k (i, at_k) in let ol = owned l (j, at_l) in let is : l.entry.runner ≡ k.entry.runner = sym (thread_is l ol.0 ol.1 ol.2) ∙ (sym same ∙ thread_is k ok.0 ok.1 ok.2) in
         let lists : ol.0 ≡ ok.0 = some-injective ol.0 ok.0 (sym ol.1 ∙ (ap (get_elem? owns) is ∙ ok.1)) in let hl : HasMember ok.0 l = subst (λ (z : List Kn). HasMember z l) lists ol.2 in
         let s = script_of k.entry.runner ok.0 ok.1 in
         ⊎_elim (λ (before : ok.2.0 < hl.0). sk.rising k.entry.runner ok.0 ok.1 ok.2.0 hl.0 k l ok.2.1 hl.1 before)
-        (λ (after : hl.0 ≤ ok.2.0). absurd (let q = in_order Walk k.entry.runner 1 s.0 s.1 ok.0 s.4 hl.0 ok.2.0 l k hl.1 ok.2.1 after in omega arith)) (near_or_far ok.2.0 hl.0);
+        (λ (after : hl.0 ≤ ok.2.0). absurd (let q = in_order Walk k.entry.runner 1 [] s.0 s.1 ok.0 s.4 hl.0 ok.2.0 l k hl.1 ok.2.1 after in omega arith)) (near_or_far ok.2.0 hl.0);
   }

@@ -1,5 +1,5 @@
 -- A run of scripts over cells, as one history.
-use Rattle.std.specs.Prelude.{◌≡◌, ℕ, zero, suc, ◌+◌, ◌<◌, ◌==◌, ◌≤◌, List, [], ◌∷◌, ◌++◌, length, map}
+use Rattle.std.specs.Prelude.{◌≡◌, ℕ, zero, suc, ◌+◌, ◌<◌, ◌==◌, ◌≤◌, List, [], ◌∷◌, ◌++◌, length, map, take}
 use Rattle.std.specs.List.{filter, count_by, range_with_len}
 use Rattle.turn_cell.specs.Maps.{one_if_below, sum_below, with_value_at}
 use Rattle.turn_cell.specs.Histories.{HasMember, Replays, count_with_stamp, entries_at_cell, entries_of_runner, state_after}
@@ -51,14 +51,14 @@ module _ {S O A : Type 0} where
   flattened c [] = []
   flattened c (r ∷ rs) = map (known_at c) r.entries.items ++ flattened (c + 1) rs
 
--- a call's meaning is a relation of the call, its steps and its reply
-module _ {C R O A : Type 0} (Walk : C → List (Known O A) → R → Type 0) where
-  -- the entries are those of the calls, one after another, each call's a walk to its reply
-  abbrev pub AreCallsMade : ℕ → ℕ → List C → List R → List (Known O A) → Type 0
-  AreCallsMade t n [] [] ks = ks ≡ []
-  AreCallsMade t n [] (r ∷ rs) ks = ⊥
-  AreCallsMade t n (c ∷ cs) [] ks = ⊥
-  AreCallsMade t n (c ∷ cs) (r ∷ rs) ks = (own : List (Known O A)) × (rest : List (Known O A)) × (ks ≡ own ++ rest) × AreStepsOf t n own × Walk c own r × AreCallsMade t (n + 1) cs rs rest
+-- a call's meaning is a relation of the replies that its thread had before, the call, its steps and its reply
+module _ {C R O A : Type 0} (Walk : List R → C → List (Known O A) → R → Type 0) where
+  -- behind those replies, the entries are those of the calls, one after another, each call's a walk to its reply
+  abbrev pub AreCallsMade : ℕ → ℕ → List R → List C → List R → List (Known O A) → Type 0
+  AreCallsMade t n before [] [] ks = ks ≡ []
+  AreCallsMade t n before [] (r ∷ rs) ks = ⊥
+  AreCallsMade t n before (c ∷ cs) [] ks = ⊥
+  AreCallsMade t n before (c ∷ cs) (r ∷ rs) ks = (own : List (Known O A)) × (rest : List (Known O A)) × (ks ≡ own ++ rest) × AreStepsOf t n own × Walk before c own r × AreCallsMade t (n + 1) (before ++ r ∷ []) cs rs rest
 
 module _ {S O A : Type 0} (after : S → O → S) where
   -- all cells after all steps, a step changing its own cell alone
@@ -72,7 +72,7 @@ module _ {S O A : Type 0} (after : S → O → S) (reply : S → O → A) where
   AllReplay store [] = Unit {0}
   AllReplay store (k ∷ ks) = (reply (store k.cell) k.entry.op ≡ k.entry.answer) × AllReplay (with_value_at store k.cell (after (store k.cell) k.entry.op)) ks
 
-module _ {S O A C R : Type 0} (after : S → O → S) (reply : S → O → A) (Walk : C → List (Known O A) → R → Type 0) where
+module _ {S O A C R : Type 0} (after : S → O → S) (reply : S → O → A) (Walk : List R → C → List (Known O A) → R → Type 0) where
   -- one history of all threads
   pub record IsLawfulRun (opening : ℕ → S) (scripts : List (List C)) (replies : List (List R)) (steps : List (Known O A)) (last : ℕ → S) (cells : ℕ) : Type 0 where
     -- (a) one reply for each call; the stamps are 0, 1, 2 and so on; the replay gives each answer, and the last store
@@ -83,7 +83,7 @@ module _ {S O A C R : Type 0} (after : S → O → S) (reply : S → O → A) (W
     -- (b) each step's caller is a call of the trace, and its runner is the caller's thread
     pub callers : (i : ℕ) (k : Known O A) → get_elem? steps i ≡ some k → (cs : List C) × (get_elem? scripts k.entry.caller.thread ≡ some cs) × (0 < k.entry.caller.call) × (k.entry.caller.call ≤ length cs) × (k.entry.runner ≡ k.entry.caller.thread)
     -- (c) each call's reply is the walk's over its own steps
-    pub walks : (t n : ℕ) (cs : List C) (rs : List R) (c : C) (r : R) → get_elem? scripts t ≡ some cs → get_elem? replies t ≡ some rs → get_elem? cs n ≡ some c → get_elem? rs n ≡ some r → Walk c (steps_of_call (n + 1) (steps_of_thread t steps)) r
+    pub walks : (t n : ℕ) (cs : List C) (rs : List R) (c : C) (r : R) → get_elem? scripts t ≡ some cs → get_elem? replies t ≡ some rs → get_elem? cs n ≡ some c → get_elem? rs n ≡ some r → Walk (take n rs) c (steps_of_call (n + 1) (steps_of_thread t steps)) r
     -- (d) a thread's steps rise in stamp with its calls
     pub order : (i j : ℕ) (k l : Known O A) → get_elem? steps i ≡ some k → get_elem? steps j ≡ some l → k.entry.caller.thread ≡ l.entry.caller.thread → k.entry.caller.call < l.entry.caller.call → k.entry.stamp < l.entry.stamp
 
@@ -91,7 +91,7 @@ module _ {S O A C R : Type 0} (after : S → O → S) (reply : S → O → A) (W
   pub record ScriptsKeepOrder (scripts : List (List C)) (replies : List (List R)) (owns : List (List (Known O A))) : Type 0 where
     pub count_replies : length replies ≡ length scripts
     pub count_owns : length owns ≡ length scripts
-    pub made : (t : ℕ) (cs : List C) (rs : List R) (ks : List (Known O A)) → get_elem? scripts t ≡ some cs → get_elem? replies t ≡ some rs → get_elem? owns t ≡ some ks → AreCallsMade Walk t 1 cs rs ks
+    pub made : (t : ℕ) (cs : List C) (rs : List R) (ks : List (Known O A)) → get_elem? scripts t ≡ some cs → get_elem? replies t ≡ some rs → get_elem? owns t ≡ some ks → AreCallsMade Walk t 1 [] cs rs ks
     pub rising : (t : ℕ) (ks : List (Known O A)) → get_elem? owns t ≡ some ks → StampsRise ks
 
   -- what the closed cells say, of entries by cell and of the passes' own

@@ -34,3 +34,15 @@ IsAsked _ named = ⊥
 -- what a number names after an operation was asked for by it, or was named by some number before it
 abbrev pub NamesAreGiven : Type 0
 NamesAreGiven = (map : Map) (operation : FdOp) (number : ℕ) → is_named (slot_at (dstep map operation).map number) ≡ true → IsAsked operation (slot_at (dstep map operation).map number) ⊎ ((before : ℕ) × (slot_at map before ≡ slot_at (dstep map operation).map number))
+
+-- the operation sets the current directory
+abbrev pub is_setcwd : FdOp → Bool
+is_setcwd (fd.Setcwd backend id) = true
+is_setcwd _ = false
+
+-- The current directory is the one that was set last. What becomes of the numbers leaves it as it is, and to set it
+-- leaves them.
+pub record CurrentIsSetLast : Type 0 where
+  pub set : (map : Map) (backend id : ℕ) → (dstep (dstep map (fd.Setcwd backend id)).map fd.Cwd).answer ≡ fd_answer.Dir backend id
+  pub kept : (map : Map) (operation : FdOp) → is_setcwd operation ≡ false → (dstep (dstep map operation).map fd.Cwd).answer ≡ (dstep map fd.Cwd).answer
+  pub numbers : (map : Map) (backend id number : ℕ) → slot_at (dstep map (fd.Setcwd backend id)).map number ≡ slot_at map number

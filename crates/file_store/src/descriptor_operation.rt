@@ -64,6 +64,13 @@ impl Slot {
     }
 }
 
+/// The current directory: a directory of a backend, also one that was removed.
+#[derive(Clone, Copy, Debug, PartialEq, Eq)]
+pub struct CurrentDir {
+    pub backend: BackendId,
+    pub dir: DirId,
+}
+
 /// An operation on the descriptors.
 #[derive(Clone, Copy, Debug, PartialEq, Eq)]
 pub enum FdOp {
@@ -94,6 +101,13 @@ pub enum FdOp {
     },
     /// Frees a number that names something.
     Take(u32),
+    /// Which is the current directory?
+    Cwd,
+    /// Has the current directory be that one of that backend.
+    Setcwd {
+        backend: BackendId,
+        dir: DirId,
+    },
 }
 
 /// What an operation answers.

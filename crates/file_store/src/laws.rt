@@ -1,6 +1,6 @@
 //! What a user may conclude from the definitions. The functions do nothing: each clause is a law.
 
-ghost use Rattle.file_store.specs.DescriptorLaws.{CopiesShare, NamesAreGiven};
+ghost use Rattle.file_store.specs.DescriptorLaws.{CopiesShare, CurrentIsSetLast, NamesAreGiven};
 ghost use Rattle.file_store.specs.Laws.{DescriptionsHaveFiles, IdsAreNew, OffsetsAreApart, OpeningsAreSound, RefusalsChangeNothing, StepsStaySound};
 ghost use Rattle.file_store.specs.WriteLaws.{CutsKeepTheRest, WritesAreRead};
 
@@ -12,6 +12,11 @@ pub fn copies_share()
 /// What a number names was asked for by the operation, or was named by some number before it.
 pub fn names_are_given()
     ensures { NamesAreGiven }
+{}
+
+/// The current directory is the one that was set last, and what becomes of the numbers leaves it as it is.
+pub fn current_is_set_last()
+    ensures { CurrentIsSetLast }
 {}
 
 /// A group before the first operation is sound.

@@ -16,10 +16,10 @@ use Rattle.memory_backend.specs.declared.cell.CellOp.{CellOp}
 use Rattle.memory_backend.specs.Cells.{Cell, HasForm, IsOpOf, IsWithin, KindAllows, KindTakes, cell_kind, cell_reply, contents_after, contents_reply, part_of}
 use Rattle.memory_backend.proofs.MountedNames.{mounts_after_step}
 use Rattle.memory_backend.proofs.NodesAmong.{answer_among}
-use Rattle.memory_backend.proofs.SlotsAmong.{step_keeps}
+use Rattle.memory_backend.proofs.MapAmong.{step_keeps}
 
 pub within_after : (backends : ℕ) (contents : CellContents) (id : CellId) (op : StoreOp) → IsWithin backends contents → IsCellOf backends id op → IsWithin backends (contents_after contents op)
-within_after backends (Descriptors map) cell.Descriptors (DescriptorsOp op) within fits = (step_keeps backends map within op fits).slots
+within_after backends (Descriptors map) cell.Descriptors (DescriptorsOp op) within fits = (step_keeps backends map within op fits).map
 within_after backends (Descriptors map) (cell.Names backend) (DescriptorsOp op) within fits = absurd fits
 within_after backends (Descriptors map) (cell.Files backend group) (DescriptorsOp op) within fits = absurd fits
 within_after backends (Descriptors map) id (NamesOp op) within fits = within

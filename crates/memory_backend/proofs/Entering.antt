@@ -76,19 +76,21 @@ adds_none backends caller id op outcome p q failed same number stays = (
   ([], [], refl, failed, refl),
   ap own_in same ∙ sym (append-nil (pass_own p)),
   ap (λ (v : _). v.seen) same ∙ sym (append-nil (pass_seen p)),
+  tt,
   number,
   stays,
 )
 
 -- a step that was taken added its entry
-pub adds_one : (backends number stamp : ℕ) (caller : Caller) (id : CellId) (op : StoreOp) (answer : StoreAnswer) (p q : StorePass) → number ≡ cell_of backends id
+pub adds_one : (backends number stamp : ℕ) (caller : Caller) (id : CellId) (op : StoreOp) (answer : StoreAnswer) (p q : StorePass) → number ≡ cell_of backends id → IsCellOf backends id op
     → AddsEntry number (entry_with stamp (pass_number p) caller (record { cell = id; op = op }) answer) p q → pass_number q ≡ pass_number p → StaysOfTable p q → PassRan backends caller (step_of id op (Ok (Answered answer)) ∷ []) p q
-adds_one backends number stamp caller id op answer p q is adds same stays =
+adds_one backends number stamp caller id op answer p q is fits adds same stays =
     let known : _ = record { cell = number; entry = entry_with stamp (pass_number p) caller (record { cell = id; op = op }) answer } in (
       known ∷ [],
-      (known ∷ [], [], refl, record { cell = is; runner_is = refl; caller_is = refl; op = refl; answer = refl }, refl),
+      (known ∷ [], [], refl, record { cell = is; fits = fits; runner_is = refl; caller_is = refl; op = refl; answer = refl }, refl),
       adds.own,
       adds.seen,
+      (adds.later, tt),
       same,
       stays,
     )

@@ -1,5 +1,5 @@
 pub mod NodesAmong
-pub mod SlotsAmong
+pub mod MapAmong
 pub mod MountedNames
 pub mod CellMoves
 pub mod Numbering

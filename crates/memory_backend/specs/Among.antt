@@ -17,5 +17,7 @@ IsSlotAmong backends (slot.File backend description) = backend < backends
 IsSlotAmong backends (slot.Dir backend directory) = backend < backends
 IsSlotAmong backends other = Unit {0}
 
-abbrev pub SlotsAmong : ℕ → Map → Type 0
-SlotsAmong backends map = (number : ℕ) → IsSlotAmong backends (slot_at map number)
+-- what each number names, and the current directory
+pub record IsMapAmong (backends : ℕ) (map : Map) : Type 0 where
+  pub slots : (number : ℕ) → IsSlotAmong backends (slot_at map number)
+  pub current : map.current.backend < backends

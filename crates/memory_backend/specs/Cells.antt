@@ -19,7 +19,7 @@ use Rattle.memory_backend.specs.declared.cell.CellKind.{CellKind}
 use Rattle.memory_backend.specs.declared.cell.CellOp.{CellOp}
 use Rattle.memory_backend.specs.declared.cell.CellPart.{CellPart}
 use Rattle.memory_backend.specs.declared.cell.CellPart.TheVariants.{OfDescriptors, OfNames, OfFiles}
-use Rattle.memory_backend.specs.Among.{MountsAmong, SlotsAmong}
+use Rattle.memory_backend.specs.Among.{MountsAmong, IsMapAmong}
 
 -- a cell, seen as what it holds and how many backends its store has, the root's among them
 pub record Cell : Type 0 where
@@ -78,6 +78,6 @@ KindAllows kind op answer = IsAnswerOf kind.backends op.op (Answered answer)
 
 -- what the contents name is of one of so many backends
 abbrev pub IsWithin : ℕ → CellContents → Type 0
-IsWithin backends (Descriptors map) = SlotsAmong backends map
+IsWithin backends (Descriptors map) = IsMapAmong backends map
 IsWithin backends (Names tree) = IsSound tree × MountsAmong backends tree
 IsWithin backends (Files group) = Unit {0}

@@ -4,10 +4,12 @@ use Rattle.std.proofs.lemmas.List.{append-nil}
 use Rattle.turn_cell.specs.declared.entry.Caller.{Caller}
 use Rattle.turn_cell.specs.Passes.{pass_number, pass_own, pass_seen}
 use Rattle.path_walk.specs.Programs.{Step}
+use Rattle.cell_runs.specs.Scripts.{RiseAfter}
+use Rattle.cell_runs.proofs.Making.{rise_on}
 use Rattle.memory_backend.specs.CellSteps.{EntersAll, PassRan, StoreEntry, StorePass}
 
 pub ran_none : (backends : ℕ) (caller : Caller) (pass : StorePass) → PassRan backends caller [] pass pass
-ran_none backends caller pass = ([], refl, sym (append-nil (pass_own pass)), sym (append-nil (pass_seen pass)), refl, λ id openings is. is)
+ran_none backends caller pass = ([], refl, sym (append-nil (pass_own pass)), sym (append-nil (pass_seen pass)), tt, refl, λ id openings is. is)
 
 enter_on : (backends runner : ℕ) (caller : Caller) (steps more : List Step) (xs ys : List StoreEntry) → EntersAll backends runner caller steps xs → EntersAll backends runner caller more ys → EntersAll backends runner caller (steps ++ more) (xs ++ ys)
 enter_on backends runner caller [] more xs ys a b = subst (EntersAll backends runner caller more) (sym (ap (λ (l : List StoreEntry). l ++ ys) a)) b
@@ -18,11 +20,12 @@ joined : (backends runner other : ℕ) (caller : Caller) (steps more : List Step
 joined backends runner other caller steps more xs ys same a b = enter_on backends runner caller steps more xs ys a (subst (λ (n : ℕ). EntersAll backends n caller more ys) same b)
 
 ran_from : (backends : ℕ) (caller : Caller) (steps more : List Step) (p q r : StorePass) → PassRan backends caller steps p q → PassRan backends caller more q r → PassRan backends caller (steps ++ more) p r
-ran_from backends caller steps more p q r (xs, first, own, seen, number, stays) (ys, second, own_on, seen_on, number_on, stays_on) = (
+ran_from backends caller steps more p q r (xs, first, own, seen, rise, number, stays) (ys, second, own_on, seen_on, rise_above, number_on, stays_on) = (
   xs ++ ys,
   joined backends (pass_number p) (pass_number q) caller steps more xs ys number first second,
   own_on ∙ ap (λ (l : List StoreEntry). l ++ ys) own ∙ append_assoc (pass_own p) xs ys,
   seen_on ∙ ap (λ (l : List StoreEntry). l ++ ys) seen ∙ append_assoc (pass_seen p) xs ys,
+  rise_on (pass_seen p) xs ys rise (subst (λ (l : List StoreEntry). RiseAfter l ys) seen rise_above),
   number_on ∙ number,
   λ id openings is. stays_on id openings (stays id openings is),
 )

@@ -31,7 +31,7 @@ impl CellContents {
         match (self, op) {
             (CellContents::Descriptors(descriptors), StoreOp::Descriptors(op)) => {
                 let answer = descriptors.apply(op);
-                Ok(two_of(&answer))
+                Ok(given_twice(&answer))
             }
             (CellContents::Names(names), StoreOp::Names(op)) => {
                 let (given, kept) = names.apply_with_copy(op)?;
@@ -53,7 +53,7 @@ impl CellContents {
 }
 
 /// An answer of the descriptors, twice.
-fn two_of(answer: &FdAnswer) -> Pair<StoreAnswer>
+fn given_twice(answer: &FdAnswer) -> Pair<StoreAnswer>
     ensures given { result.given ≡ StoreAnswer.Descriptors answer.now }
     ensures kept { result.kept ≡ StoreAnswer.Descriptors answer.now }
 {

@@ -16,6 +16,7 @@ use Rattle.path_walk.specs.declared.trail.Stage.TheVariants.{Start}
 use Rattle.path_walk.specs.Store.{Store, Stepped, cstep}
 use Rattle.path_walk.specs.Backing.{IsCellOf, IsAnswerOf}
 use Rattle.path_walk.specs.Programs.{Program, finished, asks, Step, step_of, Takes, Begins, IsWithin, StaysAmong, run, replied}
+use Rattle.path_walk.specs.Calls.{act_of}
 use Rattle.path_walk.specs.Posix.{Walk, program}
 use Rattle.path_walk.specs.Alone.{StepsAlone, CallsAlone}
 use Rattle.path_walk.specs.Machine.{Expects, Shows, resumed}
@@ -30,16 +31,16 @@ Tells (Some old) None P = ⊥
 Tells (Some old) (Some new) P = P old new
 
 -- after so many steps the call goes on as the machine does
-pub record Along {B : Type 0} (ran : B → List Step → B → Type 0) (told : B → Option Store) (backends count : ℕ) (call : Call) (first now : B) (stage : Stage) (answer : Option StepAnswer) : Type 0 where
+pub record Along {B : Type 0} (ran : B → List Step → B → Type 0) (told : B → Option Store) (version backends count : ℕ) (call : Call) (first now : B) (stage : Stage) (answer : Option StepAnswer) : Type 0 where
   pub steps : List Step
   pub so_far : ran first steps now
   pub many : length steps ≤ count
   pub within : IsWithin (call_steps_max - count) (resumed stage answer)
   pub among : StaysAmong backends (resumed stage answer)
   pub expects : Expects stage answer
-  pub takes : (rest : List Step) (reply : Reply) → Takes (resumed stage answer) rest reply → Takes (program call) (steps ++ rest) reply
-  pub begins : (rest : List Step) → Begins (resumed stage answer) rest → Begins (program call) (steps ++ rest)
-  pub alone : Tells (told first) (told now) (λ s t. run (program call) s ≡ run (resumed stage answer) t)
+  pub takes : (rest : List Step) (reply : Reply) → Takes (resumed stage answer) rest reply → Takes (program version call) (steps ++ rest) reply
+  pub begins : (rest : List Step) → Begins (resumed stage answer) rest → Begins (program version call) (steps ++ rest)
+  pub alone : Tells (told first) (told now) (λ s t. run (program version call) s ≡ run (resumed stage answer) t)
 
 same_step : (cell other : CellId) (op asked : StoreOp) (outcome : Result StepAnswer AllocError) → cell ≡ other → op ≡ asked → step_of cell op outcome ≡ step_of other asked outcome
 same_step cell other op asked outcome e f = ap (λ c. step_of c op outcome) e ∙ ap (λ o. step_of other o outcome) f
@@ -103,12 +104,12 @@ tells_on (Some s) (Some t) (Some u) cell op Cancelled whole p stage h e k = absu
 tells_on (Some s) (Some t) (Some u) cell op Closed whole p stage h e k = absurd k
 
 -- the step that is asked for is on a cell that is there
-pub along_cell : {B : Type 0} (ran : B → List Step → B → Type 0) (told : B → Option Store) (backends count : ℕ) (call : Call) (first now : B) (stage next : Stage) (given : Option StepAnswer) (cell : CellId) (op : StoreOp) → Along ran told backends count call first now stage given → Shows (StepNeed cell op) (resumed stage given) next → IsCellOf backends cell op
-along_cell ran told backends count call first now stage next given cell op along shows = shows_cell backends cell op (resumed stage given) next shows along.among
+pub along_cell : {B : Type 0} (ran : B → List Step → B → Type 0) (told : B → Option Store) (version backends count : ℕ) (call : Call) (first now : B) (stage next : Stage) (given : Option StepAnswer) (cell : CellId) (op : StoreOp) → Along ran told version backends count call first now stage given → Shows (StepNeed cell op) (resumed stage given) next → IsCellOf backends cell op
+along_cell ran told version backends count call first now stage next given cell op along shows = shows_cell backends cell op (resumed stage given) next shows along.among
 
 -- the call goes on over one more step
-pub along_step : {B : Type 0} (ran : B → List Step → B → Type 0) (told : B → Option Store) (ran_on : (a b c : B) (s t : List Step) → ran a s b → ran b t c → ran a (s ++ t) c) (backends count : ℕ) (call : Call) (first now new : B) (stage next : Stage) (given : Option StepAnswer) (answer : StepAnswer) (cell : CellId) (op : StoreOp) → Along ran told backends count call first now stage given → count < call_steps_max → Shows (StepNeed cell op) (resumed stage given) next → IsAnswerOf backends op answer → ran now (step_of cell op (Ok answer) ∷ []) new → StepsAlone (told now) cell op (Ok answer) (told new) → Along ran told backends (count + 1) call first new next (Some answer)
-along_step ran told ran_on backends count call first now new stage next given answer cell op along below shows form one alone =
+pub along_step : {B : Type 0} (ran : B → List Step → B → Type 0) (told : B → Option Store) (ran_on : (a b c : B) (s t : List Step) → ran a s b → ran b t c → ran a (s ++ t) c) (version backends count : ℕ) (call : Call) (first now new : B) (stage next : Stage) (given : Option StepAnswer) (answer : StepAnswer) (cell : CellId) (op : StoreOp) → Along ran told version backends count call first now stage given → count < call_steps_max → Shows (StepNeed cell op) (resumed stage given) next → IsAnswerOf backends op answer → ran now (step_of cell op (Ok answer) ∷ []) new → StepsAlone (told now) cell op (Ok answer) (told new) → Along ran told version backends (count + 1) call first new next (Some answer)
+along_step ran told ran_on version backends count call first now new stage next given answer cell op along below shows form one alone =
     let step = step_of cell op (Ok answer) in
     record {
       steps = along.steps ++ step ∷ [];
@@ -117,9 +118,9 @@ along_step ran told ran_on backends count call first now new stage next given an
       within = shows_within (call_steps_max - (count + 1)) (call_steps_max - count) cell op (resumed stage given) next answer shows (omega (arith, below)) along.within;
       among = shows_among backends cell op (resumed stage given) next answer shows along.among form;
       expects = shows_expects cell op (resumed stage given) next answer shows;
-      takes = λ rest reply t. subst (λ steps. Takes (program call) steps reply) (sym (append_assoc along.steps (step ∷ []) rest)) (along.takes (step ∷ rest) reply (shows_takes cell op (resumed stage given) next answer rest reply shows t));
-      begins = λ rest t. subst (λ steps. Begins (program call) steps) (sym (append_assoc along.steps (step ∷ []) rest)) (along.begins (step ∷ rest) (shows_begins cell op (resumed stage given) next answer rest shows t));
-      alone = tells_on (told first) (told now) (told new) cell op answer (program call) (resumed stage given) next shows along.alone alone;
+      takes = λ rest reply t. subst (λ steps. Takes (program version call) steps reply) (sym (append_assoc along.steps (step ∷ []) rest)) (along.takes (step ∷ rest) reply (shows_takes cell op (resumed stage given) next answer rest reply shows t));
+      begins = λ rest t. subst (λ steps. Begins (program version call) steps) (sym (append_assoc along.steps (step ∷ []) rest)) (along.begins (step ∷ rest) (shows_begins cell op (resumed stage given) next answer rest shows t));
+      alone = tells_on (told first) (told now) (told new) cell op answer (program version call) (resumed stage given) next shows along.alone alone;
     }
 
 tells_start : (p : Program) (told : Option Store) → Tells told told (λ s t. run p s ≡ run p t)
@@ -127,18 +128,18 @@ tells_start p None = tt
 tells_start p (Some store) = refl
 
 -- nothing was done yet
-pub along_start : {B : Type 0} (ran : B → List Step → B → Type 0) (told : B → Option Store) (ran_none : (b : B) → ran b [] b) (backends : ℕ) (call : Call) (first : B) (stage : Stage) → 0 < backends → stage ≡ Start call → Along ran told backends 0 call first first stage None
-along_start ran told ran_none backends call first stage root e = subst (λ s. Along ran told backends 0 call first first s None) (sym e)
+pub along_start : {B : Type 0} (ran : B → List Step → B → Type 0) (told : B → Option Store) (ran_none : (b : B) → ran b [] b) (version backends : ℕ) (call : Call) (first : B) (stage : Stage) → 0 < backends → stage ≡ Start (act_of version call) → Along ran told version backends 0 call first first stage None
+along_start ran told ran_none version backends call first stage root e = subst (λ s. Along ran told version backends 0 call first first s None) (sym e)
     (record {
       steps = [];
       so_far = ran_none first;
       many = omega arith;
-      within = calls_end call;
-      among = calls_stay_among backends call root;
+      within = calls_end version call;
+      among = calls_stay_among version backends call root;
       expects = tt;
       takes = λ rest reply t. t;
       begins = λ rest t. t;
-      alone = tells_start (program call) (told first);
+      alone = tells_start (program version call) (told first);
     })
 
 on_err : (r : Result Reply AllocError) (P : Reply → Type 0) (Q : Type 0) → IsErr r → Q → MatchResult r P (λ _. Q)
@@ -146,17 +147,17 @@ on_err (Ok reply) P Q h q = cc
 on_err (Err error) P Q h q = q
 
 -- the machine found no memory: the steps so far are a beginning
-pub stopped : {B : Type 0} (ran : B → List Step → B → Type 0) (told : B → Option Store) (backends count : ℕ) (call : Call) (first now : B) (stage : Stage) (given : Option StepAnswer) (r : Result Reply AllocError) → IsErr r → count ≤ call_steps_max → Along ran told backends count call first now stage given → (steps : List Step) × ran first steps now × (length steps ≤ call_steps_max) × MatchResult r (λ reply. Walk call steps reply) (λ _. Begins (program call) steps)
-stopped ran told backends count call first now stage given r e below along = (
+pub stopped : {B : Type 0} (ran : B → List Step → B → Type 0) (told : B → Option Store) (version backends count : ℕ) (call : Call) (first now : B) (stage : Stage) (given : Option StepAnswer) (r : Result Reply AllocError) → IsErr r → count ≤ call_steps_max → Along ran told version backends count call first now stage given → (steps : List Step) × ran first steps now × (length steps ≤ call_steps_max) × MatchResult r (λ reply. Walk version call steps reply) (λ _. Begins (program version call) steps)
+stopped ran told version backends count call first now stage given r e below along = (
   along.steps,
   along.so_far,
   (let h = along.many in omega (arith, h, below)),
-  on_err r _ _ e (subst (λ steps. Begins (program call) steps) (append-nil along.steps) (along.begins [] (begins_none _))),
+  on_err r _ _ e (subst (λ steps. Begins (program version call) steps) (append-nil along.steps) (along.begins [] (begins_none _))),
 )
 
 -- a step found no memory: it is the last of a beginning
-pub refused : {B : Type 0} (ran : B → List Step → B → Type 0) (told : B → Option Store) (ran_on : (a b c : B) (s t : List Step) → ran a s b → ran b t c → ran a (s ++ t) c) (backends count : ℕ) (call : Call) (first now new : B) (stage next : Stage) (given : Option StepAnswer) (need : Need) (error : AllocError) (cell : CellId) (op : StoreOp) (r : Result Reply AllocError) → IsErr r → Along ran told backends count call first now stage given → count < call_steps_max → need ≡ StepNeed cell op → Shows need (resumed stage given) next → ran now (step_of cell op (Err error) ∷ []) new → (steps : List Step) × ran first steps new × (length steps ≤ call_steps_max) × MatchResult r (λ reply. Walk call steps reply) (λ _. Begins (program call) steps)
-refused ran told ran_on backends count call first now new stage next given need error cell op r e along below is shows one =
+pub refused : {B : Type 0} (ran : B → List Step → B → Type 0) (told : B → Option Store) (ran_on : (a b c : B) (s t : List Step) → ran a s b → ran b t c → ran a (s ++ t) c) (version backends count : ℕ) (call : Call) (first now new : B) (stage next : Stage) (given : Option StepAnswer) (need : Need) (error : AllocError) (cell : CellId) (op : StoreOp) (r : Result Reply AllocError) → IsErr r → Along ran told version backends count call first now stage given → count < call_steps_max → need ≡ StepNeed cell op → Shows need (resumed stage given) next → ran now (step_of cell op (Err error) ∷ []) new → (steps : List Step) × ran first steps new × (length steps ≤ call_steps_max) × MatchResult r (λ reply. Walk version call steps reply) (λ _. Begins (program version call) steps)
+refused ran told ran_on version backends count call first now new stage next given need error cell op r e along below is shows one =
     let step = step_of cell op (Err error) in (
       along.steps ++ step ∷ [],
       ran_on first now new along.steps (step ∷ []) along.so_far one,
@@ -165,17 +166,17 @@ refused ran told ran_on backends count call first now new stage next given need 
     )
 
 -- the machine is over: the steps are the call's, and the reply is theirs
-pub ended : {B : Type 0} (ran : B → List Step → B → Type 0) (told : B → Option Store) (backends count : ℕ) (call : Call) (first now : B) (stage next : Stage) (given : Option StepAnswer) (need : Need) (reply : Reply) → Along ran told backends count call first now stage given → count ≤ call_steps_max → need ≡ DoneNeed reply → Shows need (resumed stage given) next → (steps : List Step) × ran first steps now × (length steps ≤ call_steps_max) × Walk call steps reply
-ended ran told backends count call first now stage next given need reply along below is shows = (
+pub ended : {B : Type 0} (ran : B → List Step → B → Type 0) (told : B → Option Store) (version backends count : ℕ) (call : Call) (first now : B) (stage next : Stage) (given : Option StepAnswer) (need : Need) (reply : Reply) → Along ran told version backends count call first now stage given → count ≤ call_steps_max → need ≡ DoneNeed reply → Shows need (resumed stage given) next → (steps : List Step) × ran first steps now × (length steps ≤ call_steps_max) × Walk version call steps reply
+ended ran told version backends count call first now stage next given need reply along below is shows = (
   along.steps,
   along.so_far,
   (let h = along.many in omega (arith, h, below)),
-  subst (λ steps. Takes (program call) steps reply) (append-nil along.steps) (along.takes [] reply (shows_done reply (resumed stage given) next (subst (λ n. Shows n (resumed stage given) next) is shows))),
+  subst (λ steps. Takes (program version call) steps reply) (append-nil along.steps) (along.takes [] reply (shows_done reply (resumed stage given) next (subst (λ n. Shows n (resumed stage given) next) is shows))),
 )
 
 -- after the most steps that a call takes it is over
-pub along_over : {B : Type 0} (ran : B → List Step → B → Type 0) (told : B → Option Store) (backends count : ℕ) (call : Call) (first now : B) (stage next : Stage) (given : Option StepAnswer) (need : Need) (cell : CellId) (op : StoreOp) → Along ran told backends count call first now stage given → call_steps_max ≤ count → need ≡ StepNeed cell op → Shows need (resumed stage given) next → ⊥
-along_over ran told backends count call first now stage next given need cell op along above is shows =
+pub along_over : {B : Type 0} (ran : B → List Step → B → Type 0) (told : B → Option Store) (version backends count : ℕ) (call : Call) (first now : B) (stage next : Stage) (given : Option StepAnswer) (need : Need) (cell : CellId) (op : StoreOp) → Along ran told version backends count call first now stage given → call_steps_max ≤ count → need ≡ StepNeed cell op → Shows need (resumed stage given) next → ⊥
+along_over ran told version backends count call first now stage next given need cell op along above is shows =
     shows_none cell op (resumed stage given) next (call_steps_max - count) (subst (λ n. Shows n (resumed stage given) next) is shows) (omega (arith, above)) along.within
 
 run_done : (reply : Reply) (p : Program) (stage : Stage) (store : Store) → Shows (DoneNeed reply) p stage → run p store ≡ record { store = store; reply = reply }
@@ -183,7 +184,7 @@ run_done reply (finished given) stage store h = ap (λ (r : Reply). replied stor
 run_done reply (asks cell op next) stage store h = absurd h
 
 -- and over a store that was told, the call was the call at once
-pub ended_alone : (first now : Option Store) (call : Call) (p : Program) (next : Stage) (need : Need) (reply : Reply) → Tells first now (λ s t. run (program call) s ≡ run p t) → need ≡ DoneNeed reply → Shows need p next → CallsAlone first call reply now
-ended_alone None now call p next need reply h is shows = tt
-ended_alone (Some s) None call p next need reply h is shows = absurd h
-ended_alone (Some s) (Some t) call p next need reply h is shows = sym (steps_are_the_call s call) ∙ h ∙ run_done reply p next t (subst (λ n. Shows n p next) is shows)
+pub ended_alone : (version : ℕ) (first now : Option Store) (call : Call) (p : Program) (next : Stage) (need : Need) (reply : Reply) → Tells first now (λ s t. run (program version call) s ≡ run p t) → need ≡ DoneNeed reply → Shows need p next → CallsAlone version first call reply now
+ended_alone version None now call p next need reply h is shows = tt
+ended_alone version (Some s) None call p next need reply h is shows = absurd h
+ended_alone version (Some s) (Some t) call p next need reply h is shows = sym (steps_are_the_call version s call) ∙ h ∙ run_done reply p next t (subst (λ n. Shows n p next) is shows)

@@ -1,7 +1,7 @@
 -- A call asks only backends that are there.
 use Rattle.std.proofs.Common.{ℕ, ◌%◌, ◌<◌, ◌==◌, zero, suc, Bool, true, false, if◌then◌else◌, List, [], ◌∷◌, Option, None, Some, Result, Ok, Err, arith}
-use Rattle.wf_core.specs.Limits.{path_names_max, symloop_max, group_count}
-use Rattle.wf_core.specs.Names.{is_slash}
+use Rattle.wf_core.specs.Limits.{group_count}
+use Rattle.path_walk.specs.Paths.{is_absolute}
 use Rattle.wf_core.specs.declared.errno.Errno.{Errno}
 use Rattle.name_store.specs.declared.operation.Node.{Node}
 use Rattle.name_store.specs.declared.operation.Node.TheVariants.{Dir, Link, File as FileNode, Mount}
@@ -31,7 +31,7 @@ use Rattle.path_walk.specs.Plans.{Plan, program_of}
 use Rattle.path_walk.specs.Calls.{plan_after, unlinked_by}
 use Rattle.path_walk.specs.Posix.{program}
 use Rattle.path_walk.proofs.Plans.{EndIs, Holds, each_call}
-use Rattle.path_walk.proofs.Grows.{NodeIs, FoundIs, FillIs, Grows, uses_so, changes_so, opens_so}
+use Rattle.path_walk.proofs.Grows.{NodeIs, FoundIs, FillIs, Grows, uses_so, changes_so, walks_so, sets_so, enters_number_so, opens_so}
 
 -- of so many backends, the walk's end, its course, or what was found names only those
 abbrev EndAmong : ℕ → Result End Errno → Type 0
@@ -54,8 +54,7 @@ root_is_there : (backends backend : ℕ) → backend < backends → 0 < backends
 root_is_there backends backend h = omega (arith, h)
 
 start_among : (backends : ℕ) (text : List ℕ) (here : Spot) → here.backend < backends → (start_of text here).backend < backends
-start_among backends [] here h = h
-start_among backends (byte ∷ text) here h = by_slash (is_slash byte)
+start_among backends text here h = by_slash (is_absolute text)
   where
     by_slash : (slash : Bool) → (if slash then root_of 0 else here).backend < backends
     by_slash true = root_is_there backends here.backend h
@@ -137,6 +136,8 @@ fill_among backends (fd.Look number) h = tt
 fill_among backends (fd.Copy number) h = tt
 fill_among backends (fd.Copyto number target) h = tt
 fill_among backends (fd.Take number) h = tt
+fill_among backends fd.Cwd h = tt
+fill_among backends (fd.Setcwd backend directory) h = h
 
 among_grows : (backends : ℕ) → 0 < backends → Grows (Among backends) (λ backend. backend < backends) (IsAnswerOf backends)
 among_grows backends root = record {
@@ -150,6 +151,7 @@ among_grows backends root = record {
   found = λ op given told. found_among backends op given told;
   taken = λ op node told. node_among backends node told.1;
   named = λ op backend description told. told.1;
+  named_dir = λ op backend directory told. told.1;
   last = λ op backend description told. told.1;
   fd_last = λ op number backend description told. told.1;
 }
@@ -159,13 +161,15 @@ among_holds backends root = record {
   over = λ count given. tt;
   size = λ count backend file there. ((there, rest_is_group file), λ answer form. tt);
   last = λ count backend op there. (there, λ given form. after_among backends backend given (unlinked_by given) there);
-  along = λ count route next each. walk_among backends path_names_max route.parts route.manner route.slash symloop_max (root_of 0) (λ end. program_of (next end)) root each;
+  along = λ count base route next each. walks_so (Among backends) (λ backend. backend < backends) (IsAnswerOf backends) (among_grows backends root) 0 base route next each;
+  sets = λ count there so. sets_so (Among backends) (λ backend. backend < backends) (IsAnswerOf backends) (among_grows backends root) there so;
+  enters_numbers = λ number. enters_number_so (Among backends) (λ backend. backend < backends) (IsAnswerOf backends) (among_grows backends root) number;
   uses_files = λ number purpose. uses_so (Among backends) (λ backend. backend < backends) (IsAnswerOf backends) (among_grows backends root) number purpose;
   takes_numbers = λ number. changes_so (Among backends) (λ backend. backend < backends) (IsAnswerOf backends) (among_grows backends root) (fd.Take number) tt;
   copies_numbers = λ number. changes_so (Among backends) (λ backend. backend < backends) (IsAnswerOf backends) (among_grows backends root) (fd.Copy number) tt;
   copies_onto = λ number target. changes_so (Among backends) (λ backend. backend < backends) (IsAnswerOf backends) (among_grows backends root) (fd.Copyto number target) tt;
-  opens_paths = λ path flags. opens_so (Among backends) (λ backend. backend < backends) (IsAnswerOf backends) (among_grows backends root) path flags;
+  opens_paths = λ at flags. opens_so (Among backends) (λ backend. backend < backends) (IsAnswerOf backends) (among_grows backends root) at flags;
 }
 
-pub calls_stay_among : (backends : ℕ) (c : Call) → 0 < backends → StaysAmong backends (program c)
-calls_stay_among backends c root = each_call (λ count p. StaysAmong backends (program_of p)) (λ backend. backend < backends) (among_holds backends root) c
+pub calls_stay_among : (version backends : ℕ) (c : Call) → 0 < backends → StaysAmong backends (program version c)
+calls_stay_among version backends c root = each_call (λ count p. StaysAmong backends (program_of p)) (λ backend. backend < backends) (among_holds backends root) version c

@@ -29,13 +29,17 @@ use Rattle.path_walk.specs.declared.step.StoreOp.TheVariants.{Names as NamesOp, 
 use Rattle.path_walk.specs.declared.step.StoreAnswer.TheVariants.{Names as NamesAnswer, Files as FilesAnswer, Descriptors as DescriptorsAnswer}
 use Rattle.path_walk.specs.declared.step.StepAnswer.{StepAnswer}
 use Rattle.path_walk.specs.declared.step.StepAnswer.TheVariants.{Answered, Cancelled, Closed}
+use Rattle.path_walk.specs.declared.act.PathAt.{PathAt}
+use Rattle.path_walk.specs.declared.call.Base.{Base}
+use Rattle.path_walk.specs.declared.call.Base.TheVariants.{Cwd, Fd}
 use Rattle.path_walk.specs.declared.call.Reply.{Reply}
 use Rattle.path_walk.specs.declared.call.Reply.TheVariants as reply
-use Rattle.path_walk.specs.PathMeaning.{station, path_start, root_of, spot_beside, start_of}
+use Rattle.path_walk.specs.Paths.{is_absolute}
+use Rattle.path_walk.specs.PathMeaning.{station, root_of, spot_beside, start_in, start_of}
 use Rattle.path_walk.specs.Walk.{node_in}
-use Rattle.path_walk.specs.Plans.{Plan, replies, steps, walks, fails, cell_of_id, fault_in, reply_to, unless_told, unless_fault}
-use Rattle.path_walk.specs.DescriptorCalls.{op_of_data, data_step_plan, data_plan, releases, number_plan, changes_numbers}
-use Rattle.path_walk.specs.OpenPlan.{flags_fault, directory_fault, file_fault, link_fault, absent_fault, mode_of, route_to, open_route, drops, unless_drops, fills, opens_directory, attached_by, description_in, file_in, made_by, opens_file, follows, found_plan, meant_plan, unlinked_plan, unmakes, added_plan, makes, looked_plan, looks, open_end, open_walks_max, opens_along, request_of, opens_by, reserved_plan, opens}
+use Rattle.path_walk.specs.Plans.{Plan, replies, steps, walks, fails, cell_of_id, fault_in, from_base, op_of_base, reply_to, spot_in, unless_told, unless_fault, walks_from, walks_in}
+use Rattle.path_walk.specs.DescriptorCalls.{op_of_data, data_step_plan, data_plan, releases, number_plan, changes_numbers, enters, enters_number}
+use Rattle.path_walk.specs.OpenPlan.{flags_fault, directory_fault, file_fault, link_fault, absent_fault, mode_of, route_to, open_route, drops, unless_drops, fills, opens_directory, attached_by, description_in, file_in, made_by, opens_file, follows, found_plan, meant_plan, unlinked_plan, unmakes, added_plan, makes, looked_plan, looks, open_end, open_walks_max, opens_along, request_of, opens_in, opens_by, reserved_plan, opens}
 use Rattle.path_walk.proofs.Plans.{EndIs}
 
 -- a found node is of a backend that is so
@@ -47,10 +51,11 @@ abbrev pub FoundIs : (ℕ → Type 0) → Result (Option Node) Errno → Type 0
 FoundIs There (Ok (Some node)) = NodeIs There node
 FoundIs There found = Unit {0}
 
--- the numbers are to name something of a backend that is so
+-- the numbers are to name something of a backend that is so, or the current directory is to be of one
 abbrev pub FillIs : (ℕ → Type 0) → FdOp → Type 0
 FillIs There (fd.FillFile number backend description) = There backend
 FillIs There (fd.FillDir number backend directory) = There backend
+FillIs There (fd.Setcwd backend directory) = There backend
 FillIs There op = Unit {0}
 
 -- the names that are left at an end
@@ -70,6 +75,7 @@ pub record Grows (P : ℕ → Plan → Type 0) (There : ℕ → Type 0) (Told : 
   pub found : (op : NameOp) (given : StepAnswer) → Told (NamesOp op) given → FoundIs There (node_in given)
   pub taken : (op : NameOp) (node : Node) → Told (NamesOp op) (Answered (NamesAnswer (answer.Taken node))) → NodeIs There node
   pub named : (op : FdOp) (backend description : ℕ) → Told (DescriptorsOp op) (Answered (DescriptorsAnswer (fd_answer.File backend description))) → There backend
+  pub named_dir : (op : FdOp) (backend directory : ℕ) → Told (DescriptorsOp op) (Answered (DescriptorsAnswer (fd_answer.Dir backend directory))) → There backend
   pub last : (op : FdOp) (backend description : ℕ) → Told (DescriptorsOp op) (Answered (DescriptorsAnswer (fd_answer.Last backend description))) → There backend
   pub fd_last : (op : FdOp) (number backend description : ℕ) → Told (DescriptorsOp op) (Answered (DescriptorsAnswer (fd_answer.FdLast number backend description))) → There backend
 
@@ -111,6 +117,52 @@ module _ (P : ℕ → Plan → Type 0) (There : ℕ → Type 0) (Told : StoreOp 
   pub changes_so : (op : FdOp) → FillIs There op → P 2 (changes_numbers op)
   changes_so op fill = grows.on_numbers 1 op number_plan fill (number_so op)
 
+  -- Starts.
+
+  -- a start is in a backend that is so
+  abbrev pub StartIs : Result Spot Errno → Type 0
+  StartIs (Ok spot) = There spot.backend
+  StartIs (Err error) = Unit {0}
+
+  start_told : (op : FdOp) (given : StepAnswer) → Told (DescriptorsOp op) given → StartIs (spot_in given)
+  start_told op (Answered (DescriptorsAnswer (fd_answer.Dir backend directory))) told = grows.named_dir op backend directory told
+  start_told op (Answered (DescriptorsAnswer (fd_answer.File backend description))) told = tt
+  start_told op (Answered (DescriptorsAnswer (fd_answer.Fd number))) told = tt
+  start_told op (Answered (DescriptorsAnswer (fd_answer.FdLast number backend description))) told = tt
+  start_told op (Answered (DescriptorsAnswer fd_answer.Done)) told = tt
+  start_told op (Answered (DescriptorsAnswer (fd_answer.Last backend description))) told = tt
+  start_told op (Answered (DescriptorsAnswer (fd_answer.Fault error))) told = tt
+  start_told op (Answered (NamesAnswer given)) told = tt
+  start_told op (Answered (FilesAnswer given)) told = tt
+  start_told op Cancelled told = tt
+  start_told op Closed told = tt
+
+  base_fills : (base : Base) → FillIs There (op_of_base base)
+  base_fills Cwd = tt
+  base_fills (Fd number) = tt
+
+  -- from a base, one step more
+  from_so : (few : ℕ) (base : Option Base) (next : Result Spot Errno → Plan) → ((start : Result Spot Errno) → StartIs start → P few (next start)) → P (suc few) (from_base base next)
+  from_so few None next each = grows.more few (suc few) (next (Ok (root_of 0))) (omega arith) (each (Ok (root_of 0)) grows.root)
+  from_so few (Some base) next each = grows.on_numbers few (op_of_base base) _ (base_fills base) (λ given told. each (spot_in given) (start_told (op_of_base base) given told))
+
+  walks_in_so : (few : ℕ) (route : Route) (next : Result End Errno → Plan) → ((end : Result End Errno) → EndIs There end → P (names_left end + few) (next end)) → (start : Result Spot Errno) → StartIs start → P (path_names_max + few) (walks_in route next start)
+  walks_in_so few route next each (Ok spot) there = grows.along few (start_in spot) route next there each
+  walks_in_so few route next each (Err error) there = grows.more (0 + few) (path_names_max + few) (next (Err error)) (omega arith) (each (Err error) tt)
+
+  pub walks_so : (few : ℕ) (base : Option Base) (route : Route) (next : Result End Errno → Plan) → ((end : Result End Errno) → EndIs There end → P (names_left end + few) (next end)) → P (suc (path_names_max + few)) (walks_from base route next)
+  walks_so few base route next each = from_so (path_names_max + few) base (walks_in route next) (walks_in_so few route next each)
+
+  enters_so : (start : Result Spot Errno) → StartIs start → P 1 (enters start)
+  enters_so (Ok there) so = grows.on_numbers 0 (fd.Setcwd there.backend there.directory) _ so (λ given told. grows.over 0 (reply_to given))
+  enters_so (Err error) so = grows.over 1 (reply.Fault error)
+
+  pub sets_so : (there : Spot) → There there.backend → P 1 (enters (Ok there))
+  sets_so there so = enters_so (Ok there) so
+
+  pub enters_number_so : (number : ℕ) → P 2 (enters_number number)
+  enters_number_so number = from_so 1 (Some (Fd number)) enters enters_so
+
   -- `open`.
 
   drops_so : (number : ℕ) (error : Errno) → P 1 (drops number error)
@@ -137,8 +189,7 @@ module _ (P : ℕ → Plan → Type 0) (There : ℕ → Type 0) (Told : StoreOp 
   file_so request backend file there = unless_so 3 request.number (file_fault request.flags request.slash) _ (omega arith) (grows.on_files 2 backend file (Attach file (mode_of request.flags) request.flags.trunc) _ there (λ given so. attached_so request.number backend given (description_in given) there))
 
   start_so : (text : List ℕ) (here : Spot) → There here.backend → There (start_of text here).backend
-  start_so [] here there = there
-  start_so (byte ∷ text) here there = by_slash _
+  start_so text here there = by_slash (is_absolute text)
     where
       by_slash : (slash : Bool) → There (if slash then root_of 0 else here).backend
       by_slash true = grows.root
@@ -232,26 +283,30 @@ module _ (P : ℕ → Plan → Type 0) (There : ℕ → Type 0) (Told : StoreOp 
   along_so zero request from route there = drops_more _ request.number Eloop (omega arith)
   along_so (suc walks_left) request from route there = grows.along (4 + steps_beside walks_left) from route.route (open_end (opens_along walks_left) request route.name) there (λ end so. end_so (opens_along walks_left) (steps_beside walks_left) (beside_enough walks_left) (along_so walks_left) request route.name end so)
 
-  by_so : (number : ℕ) (flags : OpenFlags) (route : Result OpenRoute Errno) → P (path_names_max + steps_beside open_walks_max) (opens_by number flags route)
-  by_so number flags (Err error) = drops_more _ number error (omega arith)
-  by_so number flags (Ok route) = along_so open_walks_max (request_of number flags route.route.slash) path_start route grows.root
+  in_so : (request : OpenRequest) (route : OpenRoute) (start : Result Spot Errno) → StartIs start → P (path_names_max + steps_beside open_walks_max) (opens_in request route start)
+  in_so request route (Ok spot) there = along_so open_walks_max request (start_in spot) route there
+  in_so request route (Err error) there = drops_more _ request.number error (omega arith)
 
-  reserved_so : (flags : OpenFlags) (route : Result OpenRoute Errno) (given : StepAnswer) → P (path_names_max + steps_beside open_walks_max) (reserved_plan flags route given)
-  reserved_so flags route (Answered (DescriptorsAnswer (fd_answer.Fd number))) = by_so number flags route
-  reserved_so flags route (Answered (DescriptorsAnswer (fd_answer.FdLast number backend description))) = grows.over _ _
-  reserved_so flags route (Answered (DescriptorsAnswer fd_answer.Done)) = grows.over _ _
-  reserved_so flags route (Answered (DescriptorsAnswer (fd_answer.Last backend description))) = grows.over _ _
-  reserved_so flags route (Answered (DescriptorsAnswer (fd_answer.File backend description))) = grows.over _ _
-  reserved_so flags route (Answered (DescriptorsAnswer (fd_answer.Dir backend directory))) = grows.over _ _
-  reserved_so flags route (Answered (DescriptorsAnswer (fd_answer.Fault error))) = grows.over _ _
-  reserved_so flags route (Answered (NamesAnswer given)) = grows.over _ _
-  reserved_so flags route (Answered (FilesAnswer given)) = grows.over _ _
-  reserved_so flags route Cancelled = grows.over _ _
-  reserved_so flags route Closed = grows.over _ _
+  by_so : (number : ℕ) (flags : OpenFlags) (base : Option Base) (route : Result OpenRoute Errno) → P (suc (path_names_max + steps_beside open_walks_max)) (opens_by number flags base route)
+  by_so number flags base (Err error) = drops_more _ number error (omega arith)
+  by_so number flags base (Ok route) = from_so (path_names_max + steps_beside open_walks_max) base (opens_in (request_of number flags route.route.slash) route) (in_so (request_of number flags route.route.slash) route)
 
-  pub opens_so : (path : List ℕ) (flags : OpenFlags) → P 424 (opens path flags)
-  opens_so path flags = by_fault (flags_fault flags)
+  reserved_so : (flags : OpenFlags) (base : Option Base) (route : Result OpenRoute Errno) (given : StepAnswer) → P (suc (path_names_max + steps_beside open_walks_max)) (reserved_plan flags base route given)
+  reserved_so flags base route (Answered (DescriptorsAnswer (fd_answer.Fd number))) = by_so number flags base route
+  reserved_so flags base route (Answered (DescriptorsAnswer (fd_answer.FdLast number backend description))) = grows.over _ _
+  reserved_so flags base route (Answered (DescriptorsAnswer fd_answer.Done)) = grows.over _ _
+  reserved_so flags base route (Answered (DescriptorsAnswer (fd_answer.Last backend description))) = grows.over _ _
+  reserved_so flags base route (Answered (DescriptorsAnswer (fd_answer.File backend description))) = grows.over _ _
+  reserved_so flags base route (Answered (DescriptorsAnswer (fd_answer.Dir backend directory))) = grows.over _ _
+  reserved_so flags base route (Answered (DescriptorsAnswer (fd_answer.Fault error))) = grows.over _ _
+  reserved_so flags base route (Answered (NamesAnswer given)) = grows.over _ _
+  reserved_so flags base route (Answered (FilesAnswer given)) = grows.over _ _
+  reserved_so flags base route Cancelled = grows.over _ _
+  reserved_so flags base route Closed = grows.over _ _
+
+  pub opens_so : (at : PathAt) (flags : OpenFlags) → P 425 (opens at flags)
+  opens_so at flags = by_fault (flags_fault flags)
     where
-      by_fault : (fault : Option Errno) → P 424 (unless_fault fault (steps DescriptorsCell (DescriptorsOp fd.Reserve) (reserved_plan flags (open_route path))))
-      by_fault (Some error) = grows.over 424 (reply.Fault error)
-      by_fault None = grows.on_numbers 423 fd.Reserve _ tt (λ given told. reserved_so flags (open_route path) given)
+      by_fault : (fault : Option Errno) → P 425 (unless_fault fault (steps DescriptorsCell (DescriptorsOp fd.Reserve) (reserved_plan flags at.base (open_route at.path))))
+      by_fault (Some error) = grows.over 425 (reply.Fault error)
+      by_fault None = grows.on_numbers 424 fd.Reserve _ tt (λ given told. reserved_so flags at.base (open_route at.path) given)

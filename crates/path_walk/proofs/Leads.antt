@@ -95,5 +95,5 @@ plans_run (walks from route next) store =
     walks_lead store from.names route.parts route.manner route.slash from.links from.spot (λ end. program_of (next end))
     ∙ plans_run (next (resolve store from.names route.parts route.manner route.slash from.links from.spot)) store
 
-pub steps_are_the_call : (store : Store) (call : Call) → run (program call) store ≡ posix store call
-steps_are_the_call store call = plans_run (plan call) store
+pub steps_are_the_call : (version : ℕ) (store : Store) (call : Call) → run (program version call) store ≡ posix version store call
+steps_are_the_call version store call = plans_run (plan version call) store

@@ -9,7 +9,7 @@ use Rattle.file_store.specs.declared.descriptor_operation.FdOp.TheVariants as fd
 use Rattle.path_walk.specs.declared.descriptor_call.DataCall.{DataCall}
 use Rattle.path_walk.specs.declared.descriptor_call.DataCall.TheVariants as on_file
 use Rattle.path_walk.specs.declared.open_request.OpenFlags.{OpenFlags}
-use Rattle.path_walk.specs.DescriptorCalls.{changes_numbers, data_plan}
+use Rattle.path_walk.specs.DescriptorCalls.{changes_numbers, data_plan, enters, enters_number}
 use Rattle.path_walk.specs.OpenPlan.{opens}
 use Rattle.path_walk.specs.declared.part.Part.{Part}
 use Rattle.path_walk.specs.declared.route.Manner.{Manner}
@@ -21,13 +21,15 @@ use Rattle.path_walk.specs.declared.route.End.TheVariants.{Directory, File, Link
 use Rattle.path_walk.specs.declared.goal.Change.{Change}
 use Rattle.path_walk.specs.declared.goal.Change.TheVariants as change
 use Rattle.path_walk.specs.declared.step.StoreOp.TheVariants.{Files as FilesOp}
+use Rattle.path_walk.specs.declared.act.PathAt.{PathAt}
+use Rattle.path_walk.specs.declared.call.Base.{Base}
+use Rattle.path_walk.specs.declared.call.Base.TheVariants.{Cwd}
 use Rattle.path_walk.specs.declared.call.Call.{Call}
 use Rattle.path_walk.specs.declared.call.Call.TheVariants as call
 use Rattle.path_walk.specs.declared.call.Reply.{Reply}
 use Rattle.path_walk.specs.declared.call.Reply.TheVariants as reply
-use Rattle.path_walk.specs.Plans.{Plan, replies, steps, walks, fails, on_ok, ok_unless, unless_fault, cell_of_id, reply_to, parent_route, whole_route}
-use Rattle.path_walk.specs.Calls.{plan, last_fault, last_step, status_plan, text_plan, list_plan, parent_plan, parent_of, change_plan, changes, name_of, faults_of, op_of, move_faults, move_on, move_plan, slash_fault, text_fault}
-use Rattle.path_walk.specs.PathMeaning.{path_start}
+use Rattle.path_walk.specs.Plans.{Plan, replies, steps, fails, on_ok, ok_unless, unless_fault, cell_of_id, reply_to, parent_route, walks_from, whole_route}
+use Rattle.path_walk.specs.Calls.{change_fault, change_plan, changes, enter_plan, faults_of, last_fault, last_step, list_plan, move_faults, move_on, move_plan, moves, name_of, op_of, parent_of, parent_plan, path_at, plan, slash_fault, status_plan, text_plan, whole_plan}
 
 -- the backend of a walk's end is so
 abbrev pub EndIs : (ℕ → Type 0) → Result End Errno → Type 0
@@ -51,8 +53,10 @@ pub record Holds (P : ℕ → Plan → Type 0) (There : ℕ → Type 0) : Type 0
   pub takes_numbers : (number : ℕ) → P 2 (changes_numbers (fd.Take number))
   pub copies_numbers : (number : ℕ) → P 2 (changes_numbers (fd.Copy number))
   pub copies_onto : (number target : ℕ) → P 2 (changes_numbers (fd.Copyto number target))
-  pub opens_paths : (path : List ℕ) (flags : OpenFlags) → P 2 (opens path flags)
-  pub along : (count : ℕ) (route : Route) (next : Result End Errno → Plan) → ((end : Result End Errno) → EndIs There end → P count (next end)) → P (suc count) (walks path_start route next)
+  pub enters_numbers : (number : ℕ) → P 2 (enters_number number)
+  pub opens_paths : (at : PathAt) (flags : OpenFlags) → P 2 (opens at flags)
+  pub sets : (count : ℕ) (there : Spot) → There there.backend → P count (enters (Ok there))
+  pub along : (count : ℕ) (base : Option Base) (route : Route) (next : Result End Errno → Plan) → ((end : Result End Errno) → EndIs There end → P count (next end)) → P (suc count) (walks_from base route next)
 
 module _ (P : ℕ → Plan → Type 0) (There : ℕ → Type 0) (holds : Holds P There) where
   fails_so : (count : ℕ) (error : Errno) → P count (fails error)
@@ -84,6 +88,12 @@ module _ (P : ℕ → Plan → Type 0) (There : ℕ → Type 0) (holds : Holds P
   list_so count start (Ok (File backend file)) there = fails_so count Enotdir
   list_so count start (Ok (LinkText text)) there = fails_so count Enotdir
 
+  enter_so : (count : ℕ) (end : Result End Errno) → EndIs There end → P count (enter_plan end)
+  enter_so count (Err error) there = fails_so count error
+  enter_so count (Ok (Directory station)) there = holds.sets count station.spot there
+  enter_so count (Ok (File backend file)) there = fails_so count Enotdir
+  enter_so count (Ok (LinkText text)) there = fails_so count Enotdir
+
   spot_is : (fault : Option Errno) (spot there : Spot) → ok_unless fault spot ≡ Ok there → there ≡ spot
   spot_is (Some error) spot there e = cc
   spot_is None spot there e = cc
@@ -112,42 +122,54 @@ module _ (P : ℕ → Plan → Type 0) (There : ℕ → Type 0) (holds : Holds P
       on_ok_so count (name_of move_faults new_last) _ (λ new_name f.
       step_so count from.backend (Move from.directory name to.directory new_name slash) (from.backend == to.backend) there))
 
-  move_on_so : (last : Option Part) (slash : Bool) (new : Result Route Errno) (from : Spot) → There from.backend → P 1 (move_on last slash new from)
-  move_on_so last slash new from there =
-      on_ok_so 1 new (λ route. walks path_start route (parent_plan route.last (move_plan from last (slash || route.slash) route.last))) (λ route e.
-      holds.along 0 route (parent_plan route.last (move_plan from last (slash || route.slash) route.last))
+  move_on_so : (last : Option Part) (slash : Bool) (base : Option Base) (new : Result Route Errno) (from : Spot) → There from.backend → P 1 (move_on last slash base new from)
+  move_on_so last slash base new from there =
+      on_ok_so 1 new (λ route. walks_from base route (parent_plan route.last (move_plan from last (slash || route.slash) route.last))) (λ route e.
+      holds.along 0 base route (parent_plan route.last (move_plan from last (slash || route.slash) route.last))
       (parent_so 0 route.last (move_plan from last (slash || route.slash) route.last) (λ to h. move_so 0 from last (slash || route.slash) route.last to there)))
 
-  changes_so : (change : Change) (path : List ℕ) → P 2 (changes change path)
-  changes_so change path =
-      on_ok_so 2 (parent_route path) (λ route. walks path_start route (parent_plan route.last (change_plan change route.last route.slash))) (λ route e.
-      holds.along 1 route (parent_plan route.last (change_plan change route.last route.slash))
-      (parent_so 1 route.last (change_plan change route.last route.slash) (λ spot there. change_so 1 change route.last route.slash spot there)))
+  changes_so : (change : Change) (at : PathAt) → P 2 (unless_fault (change_fault change) (changes change at))
+  changes_so change at =
+      unless_so 2 (change_fault change) (changes change at)
+      (on_ok_so 2 (parent_route at.path) (λ route. walks_from at.base route (parent_plan route.last (change_plan change route.last route.slash))) (λ route e.
+      holds.along 1 at.base route (parent_plan route.last (change_plan change route.last route.slash))
+      (parent_so 1 route.last (change_plan change route.last route.slash) (λ spot there. change_so 1 change route.last route.slash spot there))))
 
-  whole_so : (manner : Manner) (path : List ℕ) (next : Result End Errno → Plan) → ((end : Result End Errno) → EndIs There end → P 1 (next end)) → P 2 (on_ok (whole_route manner path) (λ route. walks path_start route next))
-  whole_so manner path next each = on_ok_so 2 (whole_route manner path) (λ route. walks path_start route next) (λ route e. holds.along 1 route next each)
+  moves_so : (at new : PathAt) → P 2 (moves at new)
+  moves_so at new =
+      on_ok_so 2 (parent_route at.path) (λ route. walks_from at.base route (parent_plan route.last (move_on route.last route.slash new.base (parent_route new.path)))) (λ route e.
+      holds.along 1 at.base route (parent_plan route.last (move_on route.last route.slash new.base (parent_route new.path)))
+      (parent_so 1 route.last (move_on route.last route.slash new.base (parent_route new.path)) (λ from there. move_on_so route.last route.slash new.base (parent_route new.path) from there)))
 
-  pub each_call : (c : Call) → P 2 (plan c)
-  each_call (call.Mkdir path) = changes_so change.Makedir path
-  each_call (call.Rmdir path) = changes_so change.Remdir path
-  each_call (call.Unlink path) = changes_so change.Remfile path
-  each_call (call.Symlink text path) = unless_so 2 (text_fault text) (changes (change.Addlink text) path) (changes_so (change.Addlink text) path)
-  each_call (call.Rename path new) =
-      on_ok_so 2 (parent_route path) (λ route. walks path_start route (parent_plan route.last (move_on route.last route.slash (parent_route new)))) (λ route e.
-      holds.along 1 route (parent_plan route.last (move_on route.last route.slash (parent_route new)))
-      (parent_so 1 route.last (move_on route.last route.slash (parent_route new)) (λ from there. move_on_so route.last route.slash (parent_route new) from there)))
-  each_call (call.Readlink path) = whole_so Stays path text_plan (text_so 1)
-  each_call (call.Stat path) = whole_so Follows path status_plan (status_so 1)
-  each_call (call.Lstat path) = whole_so Stays path status_plan (status_so 1)
-  each_call (call.List path start) = whole_so Follows path (list_plan start) (list_so 1 start)
-  each_call (call.Open path flags) = holds.opens_paths path flags
-  each_call (call.Close number) = holds.takes_numbers number
-  each_call (call.Dup number) = holds.copies_numbers number
-  each_call (call.Dup2 number target) = holds.copies_onto number target
-  each_call (call.Read number count) = holds.uses_files number (on_file.Read count)
-  each_call (call.Pread number count offset) = holds.uses_files number (on_file.Pread count offset)
-  each_call (call.Write number bytes) = holds.uses_files number (on_file.Write bytes)
-  each_call (call.Pwrite number bytes offset) = holds.uses_files number (on_file.Pwrite bytes offset)
-  each_call (call.Seek number offset whence) = holds.uses_files number (on_file.Seek offset whence)
-  each_call (call.Ftruncate number size) = holds.uses_files number (on_file.Ftruncate size)
-  each_call (call.Fstat number) = holds.uses_files number on_file.Fstat
+  whole_so : (manner : Manner) (at : PathAt) (next : Result End Errno → Plan) → ((end : Result End Errno) → EndIs There end → P 1 (next end)) → P 2 (whole_plan manner at next)
+  whole_so manner at next each = on_ok_so 2 (whole_route manner at.path) (λ route. walks_from at.base route next) (λ route e. holds.along 1 at.base route next each)
+
+  pub each_call : (version : ℕ) (c : Call) → P 2 (plan version c)
+  each_call version (call.Mkdir path) = changes_so change.Makedir (path_at version Cwd path)
+  each_call version (call.Mkdirat base path) = changes_so change.Makedir (path_at version base path)
+  each_call version (call.Rmdir path) = changes_so change.Remdir (path_at version Cwd path)
+  each_call version (call.Rmdirat base path) = changes_so change.Remdir (path_at version base path)
+  each_call version (call.Unlink path) = changes_so change.Remfile (path_at version Cwd path)
+  each_call version (call.Unlinkat base path) = changes_so change.Remfile (path_at version base path)
+  each_call version (call.Symlink text path) = changes_so (change.Addlink text) (path_at version Cwd path)
+  each_call version (call.Rename path new) = moves_so (path_at version Cwd path) (path_at version Cwd new)
+  each_call version (call.Renameat base path new_base new) = moves_so (path_at version base path) (path_at version new_base new)
+  each_call version (call.Readlink path) = whole_so Stays (path_at version Cwd path) text_plan (text_so 1)
+  each_call version (call.Stat path) = whole_so Follows (path_at version Cwd path) status_plan (status_so 1)
+  each_call version (call.Fstatat base path) = whole_so Follows (path_at version base path) status_plan (status_so 1)
+  each_call version (call.Lstat path) = whole_so Stays (path_at version Cwd path) status_plan (status_so 1)
+  each_call version (call.List path start) = whole_so Follows (path_at version Cwd path) (list_plan start) (list_so 1 start)
+  each_call version (call.Chdir path) = whole_so Follows (path_at version Cwd path) enter_plan (enter_so 1)
+  each_call version (call.Open path flags) = holds.opens_paths (path_at version Cwd path) flags
+  each_call version (call.Openat base path flags) = holds.opens_paths (path_at version base path) flags
+  each_call version (call.Fchdir number) = holds.enters_numbers number
+  each_call version (call.Close number) = holds.takes_numbers number
+  each_call version (call.Dup number) = holds.copies_numbers number
+  each_call version (call.Dup2 number target) = holds.copies_onto number target
+  each_call version (call.Read number count) = holds.uses_files number (on_file.Read count)
+  each_call version (call.Pread number count offset) = holds.uses_files number (on_file.Pread count offset)
+  each_call version (call.Write number bytes) = holds.uses_files number (on_file.Write bytes)
+  each_call version (call.Pwrite number bytes offset) = holds.uses_files number (on_file.Pwrite bytes offset)
+  each_call version (call.Seek number offset whence) = holds.uses_files number (on_file.Seek offset whence)
+  each_call version (call.Ftruncate number size) = holds.uses_files number (on_file.Ftruncate size)
+  each_call version (call.Fstat number) = holds.uses_files number on_file.Fstat

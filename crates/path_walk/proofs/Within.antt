@@ -22,13 +22,13 @@ use Rattle.path_walk.specs.Programs.{Program, finished, asks, IsWithin}
 use Rattle.path_walk.specs.Walk.{program_on, walk, course_on, node_in}
 use Rattle.path_walk.specs.Plans.{Plan, replies, steps, cell_of_id, program_of, reply_to}
 use Rattle.path_walk.specs.Calls.{plan_after, unlinked_by, last_step}
-use Rattle.path_walk.specs.DescriptorCalls.{changes_numbers, data_plan}
+use Rattle.path_walk.specs.DescriptorCalls.{changes_numbers, data_plan, enters, enters_number}
 use Rattle.path_walk.specs.OpenPlan.{opens}
 use Rattle.path_walk.specs.Posix.{program}
 use Rattle.file_store.specs.declared.file_operation.FileOp.TheVariants.{Sizeof}
 use Rattle.path_walk.specs.declared.step.StoreOp.TheVariants.{Files as FilesOp}
 use Rattle.path_walk.proofs.Plans.{Holds, any_end, each_call}
-use Rattle.path_walk.proofs.Grows.{NodeIs, FoundIs, Grows, names_left, uses_so, changes_so, opens_so}
+use Rattle.path_walk.proofs.Grows.{NodeIs, FoundIs, Grows, names_left, uses_so, changes_so, walks_so, sets_so, enters_number_so, opens_so}
 
 within_more : (p : Program) (few most : ℕ) → few ≤ most → IsWithin few p → IsWithin most p
 within_more (finished given) few most le h = tt
@@ -96,7 +96,7 @@ after_within backend given (Some file) = λ answer. tt
 -- how many steps a plan with so many walks may take
 abbrev steps_of : ℕ → ℕ
 steps_of zero = 2
-steps_of (suc count) = path_names_max + steps_of count
+steps_of (suc count) = suc (path_names_max + steps_of count)
 
 at_least : (count : ℕ) → 2 ≤ steps_of count
 at_least zero = omega arith
@@ -138,6 +138,7 @@ within_grows = record {
   found = λ op given told. any_found (node_in given);
   taken = λ op node told. any_node node;
   named = λ op backend description told. tt;
+  named_dir = λ op backend directory told. tt;
   last = λ op backend description told. tt;
   fd_last = λ op number backend description told. tt;
 }
@@ -147,13 +148,15 @@ within_holds = record {
   over = λ count given. tt;
   size = λ count backend file there. within_more (program_of (steps (cell_of_id backend file) (FilesOp (Sizeof file)) (λ given. replies (reply_to given)))) 1 (steps_of count) (let h = at_least count in omega (arith, h)) (λ answer. tt);
   last = λ count backend op there. within_more (program_of (last_step backend op)) 2 (steps_of count) (at_least count) (λ given. after_within backend given (unlinked_by given));
-  along = λ count route next each. walk_within path_names_max route.parts route.manner route.slash symloop_max (root_of 0) (λ end. program_of (next end)) (steps_of count) (steps_of (suc count)) (omega arith) (λ end. within_more (program_of (next end)) (steps_of count) (names_left end + steps_of count) (omega arith) (each end (any_end end)));
+  along = λ count base route next each. walks_so Within Anywhere Anything within_grows (steps_of count) base route next (λ end there. within_more (program_of (next end)) (steps_of count) (names_left end + steps_of count) (omega arith) (each end there));
+  sets = λ count there so. within_more (program_of (enters (Ok there))) 1 (steps_of count) (let h = at_least count in omega (arith, h)) (sets_so Within Anywhere Anything within_grows there so);
+  enters_numbers = λ number. within_more (program_of (enters_number number)) 2 (steps_of 2) (omega arith) (enters_number_so Within Anywhere Anything within_grows number);
   uses_files = λ number purpose. within_more (program_of (data_plan number purpose)) 2 (steps_of 2) (omega arith) (uses_so Within Anywhere Anything within_grows number purpose);
   takes_numbers = λ number. within_more (program_of (changes_numbers (fd.Take number))) 2 (steps_of 2) (omega arith) (changes_so Within Anywhere Anything within_grows (fd.Take number) tt);
   copies_numbers = λ number. within_more (program_of (changes_numbers (fd.Copy number))) 2 (steps_of 2) (omega arith) (changes_so Within Anywhere Anything within_grows (fd.Copy number) tt);
   copies_onto = λ number target. within_more (program_of (changes_numbers (fd.Copyto number target))) 2 (steps_of 2) (omega arith) (changes_so Within Anywhere Anything within_grows (fd.Copyto number target) tt);
-  opens_paths = λ path flags. within_more (program_of (opens path flags)) 424 (steps_of 2) (omega arith) (opens_so Within Anywhere Anything within_grows path flags);
+  opens_paths = λ at flags. within_more (program_of (opens at flags)) 425 (steps_of 2) (omega arith) (opens_so Within Anywhere Anything within_grows at flags);
 }
 
-pub calls_end : (c : Call) → IsWithin call_steps_max (program c)
-calls_end c = within_more (program c) (steps_of 2) call_steps_max (omega arith) (each_call (λ count p. IsWithin (steps_of count) (program_of p)) (λ backend. Unit {0}) within_holds c)
+pub calls_end : (version : ℕ) (c : Call) → IsWithin call_steps_max (program version c)
+calls_end version c = within_more (program version c) (steps_of 2) call_steps_max (omega arith) (each_call (λ count p. IsWithin (steps_of count) (program_of p)) (λ backend. Unit {0}) within_holds version c)

@@ -1,5 +1,5 @@
 -- What the backends of a store that nobody else changes owe to a call, and what the call then comes to.
-use Rattle.std.specs.Prelude.{◌≡◌, Option, None, Some, Result, Ok, Err}
+use Rattle.std.specs.Prelude.{◌≡◌, ℕ, Option, None, Some, Result, Ok, Err}
 use Rattle.std.specs.declared.alloc.AllocError.{AllocError}
 use Rattle.path_walk.specs.declared.step.CellId.{CellId}
 use Rattle.path_walk.specs.declared.step.StoreOp.{StoreOp}
@@ -20,7 +20,7 @@ StepsAlone (Some old) cell op (Ok Closed) (Some new) = ⊥
 StepsAlone (Some old) cell op (Err error) (Some new) = new ≡ old
 
 -- a whole call where the store is told: its reply and its store are those of the call at once
-abbrev pub CallsAlone : Option Store → Call → Reply → Option Store → Type 0
-CallsAlone None call reply new = Unit {0}
-CallsAlone (Some old) call reply None = ⊥
-CallsAlone (Some old) call reply (Some new) = posix old call ≡ record { store = new; reply = reply }
+abbrev pub CallsAlone : ℕ → Option Store → Call → Reply → Option Store → Type 0
+CallsAlone version None call reply new = Unit {0}
+CallsAlone version (Some old) call reply None = ⊥
+CallsAlone version (Some old) call reply (Some new) = posix version old call ≡ record { store = new; reply = reply }

@@ -20,10 +20,11 @@ use Rattle.path_walk.specs.declared.step.StoreAnswer.TheVariants.{Names as Names
 use Rattle.path_walk.specs.declared.step.StepAnswer.{StepAnswer}
 use Rattle.path_walk.specs.declared.step.StepAnswer.TheVariants.{Answered, Cancelled, Closed}
 
--- the descriptors are to name something of one of so many backends
+-- the descriptors are to name something of one of so many backends, or the current directory is to be of one
 abbrev pub IsFdOpAmong : ℕ → FdOp → Type 0
 IsFdOpAmong backends (fd.FillFile number backend description) = backend < backends
 IsFdOpAmong backends (fd.FillDir number backend directory) = backend < backends
+IsFdOpAmong backends (fd.Setcwd backend directory) = backend < backends
 IsFdOpAmong backends op = Unit {0}
 
 -- the operation is one of the cell, and the cell's backend is one of so many
@@ -43,7 +44,7 @@ NamesAmong backends (Found node) = IsNodeAmong backends node
 NamesAmong backends (Taken node) = IsNodeAmong backends node
 NamesAmong backends answer = Unit {0}
 
--- what a descriptor names, or named last, is of one of so many backends
+-- what a descriptor names, or named last, and the current directory are of one of so many backends
 abbrev pub DescriptorsAmong : ℕ → FdAnswer → Type 0
 DescriptorsAmong backends (fd_answer.File backend description) = backend < backends
 DescriptorsAmong backends (fd_answer.Dir backend directory) = backend < backends

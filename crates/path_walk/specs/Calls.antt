@@ -1,7 +1,7 @@
 -- Each call as a plan. After POSIX.1-2017,
--- XSH mkdir(), rmdir(), unlink(), symlink(), rename(), readlink(), stat() and lstat(); `list` is this project's own,
--- after readdir(). A row marked (own) is this project's reading where POSIX leaves it open, or its own limit.
-use Rattle.std.specs.Prelude.{ℕ, ◌==◌, ◌||◌, zero, nat_lt, if◌then◌else◌, Bool, true, List, length, Option, None, Some, Result, Ok, Err}
+-- XSH mkdir(), rmdir(), unlink(), symlink(), rename(), readlink(), stat(), lstat(), chdir() and the forms of them that
+-- end in `at`; `list` is this project's own, after readdir(), and so is `rmdirat`. A row marked (own) is this project's reading where POSIX leaves it open, or its own limit.
+use Rattle.std.specs.Prelude.{◌≡◌, ◌⊎◌, ℕ, ◌==◌, ◌||◌, zero, nat_lt, if◌then◌else◌, Bool, true, List, length, Option, None, Some, Result, Ok, Err}
 use Rattle.wf_core.specs.Limits.{symlink_max}
 use Rattle.wf_core.specs.declared.errno.Errno.{Errno}
 use Rattle.wf_core.specs.declared.errno.Errno.TheVariants.{Enoent, Eexist, Enotdir, Eisdir, Enotempty, Einval, Ebusy, Exdev, Enametoolong}
@@ -13,6 +13,7 @@ use Rattle.file_store.specs.declared.descriptor_operation.FdOp.TheVariants as fd
 use Rattle.path_walk.specs.declared.descriptor_call.DataCall.TheVariants as on_file
 use Rattle.path_walk.specs.declared.part.Part.{Part}
 use Rattle.path_walk.specs.declared.part.Part.TheVariants.{Here, Up, Down, TooLong}
+use Rattle.path_walk.specs.declared.route.Manner.{Manner}
 use Rattle.path_walk.specs.declared.route.Manner.TheVariants.{Follows, Stays}
 use Rattle.path_walk.specs.declared.route.Spot.{Spot}
 use Rattle.path_walk.specs.declared.route.End.{End}
@@ -26,12 +27,17 @@ use Rattle.path_walk.specs.declared.step.StoreOp.TheVariants.{Names as NamesOp, 
 use Rattle.path_walk.specs.declared.step.StoreAnswer.TheVariants.{Names as NamesAnswer}
 use Rattle.path_walk.specs.declared.step.StepAnswer.{StepAnswer}
 use Rattle.path_walk.specs.declared.step.StepAnswer.TheVariants.{Answered}
+use Rattle.path_walk.specs.declared.act.Act.{Act}
+use Rattle.path_walk.specs.declared.act.Act.TheVariants as act
+use Rattle.path_walk.specs.declared.act.PathAt.{PathAt}
+use Rattle.path_walk.specs.declared.call.Base.{Base}
+use Rattle.path_walk.specs.declared.call.Base.TheVariants.{Cwd}
 use Rattle.path_walk.specs.declared.call.Call.{Call}
 use Rattle.path_walk.specs.declared.call.Call.TheVariants as call
 use Rattle.path_walk.specs.declared.call.Reply.TheVariants as reply
-use Rattle.path_walk.specs.PathMeaning.{path_start}
-use Rattle.path_walk.specs.Plans.{Plan, replies, steps, walks, fails, unless_fault, on_ok, ok_unless, whole_route, parent_route, cell_of_id, reply_to}
-use Rattle.path_walk.specs.DescriptorCalls.{changes_numbers, data_plan}
+use Rattle.path_walk.specs.Paths.{is_absolute}
+use Rattle.path_walk.specs.Plans.{Plan, replies, steps, fails, unless_fault, on_ok, ok_unless, whole_route, parent_route, walks_from, cell_of_id, reply_to}
+use Rattle.path_walk.specs.DescriptorCalls.{changes_numbers, data_plan, enters, enters_number}
 use Rattle.path_walk.specs.OpenPlan.{opens}
 
 -- the file that a step on names has left without an entry, which its group is to know
@@ -70,6 +76,17 @@ list_plan start (Err error) = fails error
 list_plan start (Ok (Directory there)) = last_step there.spot.backend (op.List there.spot.directory start)
 list_plan start (Ok (File backend file)) = fails Enotdir
 list_plan start (Ok (LinkText text)) = fails Enotdir
+
+-- the directory at the end of a walk
+abbrev pub directory_in : Result End Errno → Result Spot Errno
+directory_in (Err error) = Err error
+directory_in (Ok (Directory there)) = Ok there.spot
+directory_in (Ok (File backend file)) = Err Enotdir
+directory_in (Ok (LinkText text)) = Err Enotdir
+
+-- `chdir`
+abbrev pub enter_plan : Result End Errno → Plan
+enter_plan end = enters (directory_in end)
 
 -- Calls on an entry of the directory to which the path before its last component leads.
 
@@ -124,12 +141,17 @@ change_plan change last slash spot =
     on_ok (name_of (faults_of change) last) (λ name.
     unless_fault (slash_fault change slash) (last_step spot.backend (op_of change spot.directory name slash)))
 
-abbrev pub changes : Change → List ℕ → Plan
-changes change path = on_ok (parent_route path) (λ route. walks path_start route (parent_plan route.last (change_plan change route.last route.slash)))
-
 -- `symlink`: an empty text is ENOENT, a long one ENAMETOOLONG (own)
 abbrev pub text_fault : List ℕ → Option Errno
 text_fault text = if length text == 0 then Some Enoent else if nat_lt symlink_max (length text) then Some Enametoolong else None
+
+-- the error of a change before its path
+abbrev pub change_fault : Change → Option Errno
+change_fault (change.Addlink text) = text_fault text
+change_fault change = None
+
+abbrev pub changes : Change → PathAt → Plan
+changes change at = on_ok (parent_route at.path) (λ route. walks_from at.base route (parent_plan route.last (change_plan change route.last route.slash)))
 
 -- `rename`: `.` and `..` are EINVAL, the root is EBUSY (own)
 abbrev pub move_faults : LastFaults
@@ -144,28 +166,69 @@ move_plan from last slash new_last to =
     on_ok (name_of move_faults last) (λ name.
     on_ok (name_of move_faults new_last) (λ new_name. move_step from name slash to new_name))
 
-abbrev pub move_on : Option Part → Bool → Result Route Errno → Spot → Plan
-move_on last slash new from = on_ok new (λ route. walks path_start route (parent_plan route.last (move_plan from last (slash || route.slash) route.last)))
+-- where the first path has led to a directory: the second path's own checks come, then its walk
+abbrev pub move_on : Option Part → Bool → Option Base → Result Route Errno → Spot → Plan
+move_on last slash base new from = on_ok new (λ route. walks_from base route (parent_plan route.last (move_plan from last (slash || route.slash) route.last)))
 
--- each call
-abbrev pub plan : Call → Plan
-plan (call.Mkdir path) = changes change.Makedir path
-plan (call.Rmdir path) = changes change.Remdir path
-plan (call.Unlink path) = changes change.Remfile path
-plan (call.Symlink text path) = unless_fault (text_fault text) (changes (change.Addlink text) path)
-plan (call.Rename path new) = on_ok (parent_route path) (λ route. walks path_start route (parent_plan route.last (move_on route.last route.slash (parent_route new))))
-plan (call.Readlink path) = on_ok (whole_route Stays path) (λ route. walks path_start route text_plan)
-plan (call.Stat path) = on_ok (whole_route Follows path) (λ route. walks path_start route status_plan)
-plan (call.Lstat path) = on_ok (whole_route Stays path) (λ route. walks path_start route status_plan)
-plan (call.List path start) = on_ok (whole_route Follows path) (λ route. walks path_start route (list_plan start))
-plan (call.Open path flags) = opens path flags
-plan (call.Close number) = changes_numbers (fd.Take number)
-plan (call.Dup number) = changes_numbers (fd.Copy number)
-plan (call.Dup2 number target) = changes_numbers (fd.Copyto number target)
-plan (call.Read number count) = data_plan number (on_file.Read count)
-plan (call.Pread number count offset) = data_plan number (on_file.Pread count offset)
-plan (call.Write number bytes) = data_plan number (on_file.Write bytes)
-plan (call.Pwrite number bytes offset) = data_plan number (on_file.Pwrite bytes offset)
-plan (call.Seek number offset whence) = data_plan number (on_file.Seek offset whence)
-plan (call.Ftruncate number size) = data_plan number (on_file.Ftruncate size)
-plan (call.Fstat number) = data_plan number on_file.Fstat
+abbrev pub moves : PathAt → PathAt → Plan
+moves at new = on_ok (parent_route at.path) (λ route. walks_from at.base route (parent_plan route.last (move_on route.last route.slash new.base (parent_route new.path))))
+
+-- The acts, and the calls.
+
+abbrev pub whole_plan : Manner → PathAt → (Result End Errno → Plan) → Plan
+whole_plan manner at next = on_ok (whole_route manner at.path) (λ route. walks_from at.base route next)
+
+abbrev pub act_plan : Act → Plan
+act_plan (act.Entry change at) = unless_fault (change_fault change) (changes change at)
+act_plan (act.Move at new) = moves at new
+act_plan (act.Status manner at) = whole_plan manner at status_plan
+act_plan (act.Text at) = whole_plan Stays at text_plan
+act_plan (act.Names at start) = whole_plan Follows at (list_plan start)
+act_plan (act.Enter at) = whole_plan Follows at enter_plan
+act_plan (act.Open at flags) = opens at flags
+act_plan (act.EnterNumber number) = enters_number number
+act_plan (act.Numbers op) = changes_numbers op
+act_plan (act.Data number purpose) = data_plan number purpose
+
+-- the version of a trace's calls
+abbrev pub IsVersion : ℕ → Type 0
+IsVersion version = (version ≡ 1) ⊎ (version ≡ 2)
+
+-- a path of a call: in version 1 each starts in the root, in version 2 one that is not absolute starts at its base
+abbrev pub path_at : ℕ → Base → List ℕ → PathAt
+path_at version base path = record { base = if version == 1 || is_absolute path then None else Some base; path = path }
+
+-- what each call does, whatever its paths start from. A call that names no base starts from the current directory: POSIX's
+-- mkdir(path) is mkdirat(AT_FDCWD, path), and both are one act
+abbrev pub act_of : ℕ → Call → Act
+act_of version (call.Mkdir path) = act.Entry change.Makedir (path_at version Cwd path)
+act_of version (call.Mkdirat base path) = act.Entry change.Makedir (path_at version base path)
+act_of version (call.Rmdir path) = act.Entry change.Remdir (path_at version Cwd path)
+act_of version (call.Rmdirat base path) = act.Entry change.Remdir (path_at version base path)
+act_of version (call.Unlink path) = act.Entry change.Remfile (path_at version Cwd path)
+act_of version (call.Unlinkat base path) = act.Entry change.Remfile (path_at version base path)
+act_of version (call.Symlink text path) = act.Entry (change.Addlink text) (path_at version Cwd path)
+act_of version (call.Rename path new) = act.Move (path_at version Cwd path) (path_at version Cwd new)
+act_of version (call.Renameat base path new_base new) = act.Move (path_at version base path) (path_at version new_base new)
+act_of version (call.Readlink path) = act.Text (path_at version Cwd path)
+act_of version (call.Stat path) = act.Status Follows (path_at version Cwd path)
+act_of version (call.Fstatat base path) = act.Status Follows (path_at version base path)
+act_of version (call.Lstat path) = act.Status Stays (path_at version Cwd path)
+act_of version (call.List path start) = act.Names (path_at version Cwd path) start
+act_of version (call.Chdir path) = act.Enter (path_at version Cwd path)
+act_of version (call.Open path flags) = act.Open (path_at version Cwd path) flags
+act_of version (call.Openat base path flags) = act.Open (path_at version base path) flags
+act_of version (call.Fchdir number) = act.EnterNumber number
+act_of version (call.Close number) = act.Numbers (fd.Take number)
+act_of version (call.Dup number) = act.Numbers (fd.Copy number)
+act_of version (call.Dup2 number target) = act.Numbers (fd.Copyto number target)
+act_of version (call.Read number count) = act.Data number (on_file.Read count)
+act_of version (call.Pread number count offset) = act.Data number (on_file.Pread count offset)
+act_of version (call.Write number bytes) = act.Data number (on_file.Write bytes)
+act_of version (call.Pwrite number bytes offset) = act.Data number (on_file.Pwrite bytes offset)
+act_of version (call.Seek number offset whence) = act.Data number (on_file.Seek offset whence)
+act_of version (call.Ftruncate number size) = act.Data number (on_file.Ftruncate size)
+act_of version (call.Fstat number) = act.Data number on_file.Fstat
+
+abbrev pub plan : ℕ → Call → Plan
+plan version call = act_plan (act_of version call)

@@ -1,9 +1,10 @@
 -- The calls that name what they are on by a descriptor, as plans: POSIX.1-2017, XSH close(), dup(), dup2(), read(),
--- pread(), write(), pwrite(), lseek(), ftruncate() and fstat(). A row marked (own) is this project's own.
-use Rattle.std.specs.Prelude.{ℕ}
+-- pread(), write(), pwrite(), lseek(), ftruncate(), fstat() and fchdir(). A row marked (own) is this project's own.
+use Rattle.std.specs.Prelude.{ℕ, Some, Result, Ok, Err}
+use Rattle.wf_core.specs.declared.errno.Errno.{Errno}
 use Rattle.wf_core.specs.declared.errno.Errno.TheVariants.{Ebadf, Einval, Eisdir}
 use Rattle.file_store.specs.declared.descriptor_operation.FdOp.{FdOp}
-use Rattle.file_store.specs.declared.descriptor_operation.FdOp.TheVariants.{Look}
+use Rattle.file_store.specs.declared.descriptor_operation.FdOp.TheVariants.{Look, Setcwd}
 use Rattle.file_store.specs.declared.descriptor_operation.FdAnswer.TheVariants as fd_answer
 use Rattle.file_store.specs.declared.file_operation.FileOp.{FileOp}
 use Rattle.file_store.specs.declared.file_operation.FileOp.TheVariants as file_op
@@ -14,9 +15,11 @@ use Rattle.path_walk.specs.declared.step.StoreOp.TheVariants.{Files as FilesOp, 
 use Rattle.path_walk.specs.declared.step.StoreAnswer.TheVariants.{Descriptors as DescriptorsAnswer}
 use Rattle.path_walk.specs.declared.step.StepAnswer.{StepAnswer}
 use Rattle.path_walk.specs.declared.step.StepAnswer.TheVariants.{Answered}
+use Rattle.path_walk.specs.declared.route.Spot.{Spot}
+use Rattle.path_walk.specs.declared.call.Base.TheVariants.{Fd}
 use Rattle.path_walk.specs.declared.call.Reply.{Reply}
 use Rattle.path_walk.specs.declared.call.Reply.TheVariants as reply
-use Rattle.path_walk.specs.Plans.{Plan, replies, steps, cell_of_id, reply_to, fault_in, unless_told}
+use Rattle.path_walk.specs.Plans.{Plan, replies, steps, fails, cell_of_id, reply_to, fault_in, from_base, unless_told}
 
 -- A call on the file of a descriptor.
 
@@ -62,3 +65,14 @@ number_plan given = replies (reply_to given)
 
 abbrev pub changes_numbers : FdOp → Plan
 changes_numbers op = steps DescriptorsCell (DescriptorsOp op) number_plan
+
+-- The current directory.
+
+-- that directory becomes the current one
+abbrev pub enters : Result Spot Errno → Plan
+enters (Ok there) = steps DescriptorsCell (DescriptorsOp (Setcwd there.backend there.directory)) (λ given. replies (reply_to given))
+enters (Err error) = fails error
+
+-- `fchdir`
+abbrev pub enters_number : ℕ → Plan
+enters_number number = from_base (Some (Fd number)) enters

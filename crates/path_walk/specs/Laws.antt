@@ -8,12 +8,12 @@ use Rattle.path_walk.specs.Posix.{posix, program}
 
 -- the steps of a call, taken one after another by nobody else, are the call at once
 abbrev pub StepsAreTheCall : Type 0
-StepsAreTheCall = (store : Store) (call : Call) → run (program call) store ≡ posix store call
+StepsAreTheCall = (version : ℕ) (store : Store) (call : Call) → run (program version call) store ≡ posix version store call
 
 -- a call takes at most so many steps, whatever it meets
 abbrev pub CallsEnd : Type 0
-CallsEnd = (call : Call) → IsWithin call_steps_max (program call)
+CallsEnd = (version : ℕ) (call : Call) → IsWithin call_steps_max (program version call)
 
 -- each step of a call is on a backend that is there, the root's or one that an answer named
 abbrev pub CallsStayAmong : Type 0
-CallsStayAmong = (backends : ℕ) (call : Call) → 0 < backends → StaysAmong backends (program call)
+CallsStayAmong = (version backends : ℕ) (call : Call) → 0 < backends → StaysAmong backends (program version call)

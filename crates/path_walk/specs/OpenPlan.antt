@@ -21,6 +21,7 @@ use Rattle.path_walk.specs.declared.route.Spot.{Spot}
 use Rattle.path_walk.specs.declared.route.Station.{Station}
 use Rattle.path_walk.specs.declared.route.End.{End}
 use Rattle.path_walk.specs.declared.route.End.TheVariants.{Directory, File, LinkText}
+use Rattle.path_walk.specs.declared.act.PathAt.{PathAt}
 use Rattle.path_walk.specs.declared.open_request.OpenFlags.{OpenFlags}
 use Rattle.path_walk.specs.declared.open_request.OpenRequest.{OpenRequest}
 use Rattle.path_walk.specs.declared.open_request.OpenRoute.{OpenRoute}
@@ -29,11 +30,12 @@ use Rattle.path_walk.specs.declared.step.StoreOp.TheVariants.{Names as NamesOp, 
 use Rattle.path_walk.specs.declared.step.StoreAnswer.TheVariants.{Names as NamesAnswer, Files as FilesAnswer, Descriptors as DescriptorsAnswer}
 use Rattle.path_walk.specs.declared.step.StepAnswer.{StepAnswer}
 use Rattle.path_walk.specs.declared.step.StepAnswer.TheVariants.{Answered}
+use Rattle.path_walk.specs.declared.call.Base.{Base}
 use Rattle.path_walk.specs.declared.call.Reply.TheVariants as reply
 use Rattle.path_walk.specs.Paths.{name_in, parts_before, parts_of, last_of, slash_of, path_fault}
-use Rattle.path_walk.specs.PathMeaning.{path_start, station, root_of, spot_beside, start_of}
+use Rattle.path_walk.specs.PathMeaning.{start_in, station, root_of, spot_beside, start_of}
 use Rattle.path_walk.specs.Walk.{node_in}
-use Rattle.path_walk.specs.Plans.{Plan, replies, steps, walks, fails, ok_unless, unless_fault, cell_of_id, reply_to, fault_in}
+use Rattle.path_walk.specs.Plans.{Plan, replies, steps, walks, fails, ok_unless, unless_fault, cell_of_id, from_base, reply_to, fault_in}
 
 -- The flags.
 
@@ -208,13 +210,18 @@ opens_along (suc walks_left) request from route = walks from route.route (open_e
 abbrev pub request_of : ℕ → OpenFlags → Bool → OpenRequest
 request_of number flags slash = record { number = number; flags = flags; slash = slash }
 
-abbrev pub opens_by : ℕ → OpenFlags → Result OpenRoute Errno → Plan
-opens_by number flags (Err error) = drops number error
-opens_by number flags (Ok route) = opens_along open_walks_max (request_of number flags route.route.slash) path_start route
+-- in the directory in which the path starts
+abbrev pub opens_in : OpenRequest → OpenRoute → Result Spot Errno → Plan
+opens_in request route (Ok spot) = opens_along open_walks_max request (start_in spot) route
+opens_in request route (Err error) = drops request.number error
 
-abbrev pub reserved_plan : OpenFlags → Result OpenRoute Errno → StepAnswer → Plan
-reserved_plan flags route (Answered (DescriptorsAnswer (fd_answer.Fd number))) = opens_by number flags route
-reserved_plan flags route given = replies (reply_to given)
+abbrev pub opens_by : ℕ → OpenFlags → Option Base → Result OpenRoute Errno → Plan
+opens_by number flags base (Err error) = drops number error
+opens_by number flags base (Ok route) = from_base base (opens_in (request_of number flags route.route.slash) route)
 
-abbrev pub opens : List ℕ → OpenFlags → Plan
-opens path flags = unless_fault (flags_fault flags) (steps DescriptorsCell (DescriptorsOp Reserve) (reserved_plan flags (open_route path)))
+abbrev pub reserved_plan : OpenFlags → Option Base → Result OpenRoute Errno → StepAnswer → Plan
+reserved_plan flags base route (Answered (DescriptorsAnswer (fd_answer.Fd number))) = opens_by number flags base route
+reserved_plan flags base route given = replies (reply_to given)
+
+abbrev pub opens : PathAt → OpenFlags → Plan
+opens at flags = unless_fault (flags_fault flags) (steps DescriptorsCell (DescriptorsOp Reserve) (reserved_plan flags at.base (open_route at.path)))

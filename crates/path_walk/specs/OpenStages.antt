@@ -13,7 +13,7 @@ use Rattle.path_walk.specs.Plans.{Plan, replies, fails, fault_in}
 use Rattle.path_walk.specs.OpenPlan.{reserved_plan, opens_along, looked_plan, made_plan, added_plan, unlinked_plan, meant_plan, attached_plan, unless_drops, route_to}
 
 abbrev pub stage_plan : OpenStage → StepAnswer → Plan
-stage_plan (stage.Reserving flags route) given = reserved_plan flags route given
+stage_plan (stage.Reserving flags base route) given = reserved_plan flags base route given
 stage_plan (stage.Looking at name) given = looked_plan (opens_along at.walks) at.request at.station name (node_in given)
 stage_plan (stage.Making at name) given = made_plan (opens_along at.walks) at.request at.station name given
 stage_plan (stage.Adding at file description) given = added_plan (opens_along at.walks) at.request at.station file description given

@@ -3,7 +3,6 @@
 -- followed is this project's own.
 use Rattle.std.specs.Prelude.{ℕ, ◌==◌, ◌||◌, zero, suc, if◌then◌else◌, Bool, true, false, List, [], ◌∷◌, ◌++◌, Option, None, Some, Result, Ok, Err}
 use Rattle.wf_core.specs.Limits.{path_names_max, symloop_max}
-use Rattle.wf_core.specs.Names.{is_slash}
 use Rattle.wf_core.specs.declared.errno.Errno.{Errno}
 use Rattle.wf_core.specs.declared.errno.Errno.TheVariants.{Enoent, Enotdir, Eloop, Enametoolong}
 use Rattle.name_store.specs.declared.operation.Node.{Node}
@@ -18,7 +17,7 @@ use Rattle.path_walk.specs.declared.route.Station.{Station}
 use Rattle.path_walk.specs.declared.route.End.{End}
 use Rattle.path_walk.specs.declared.route.End.TheVariants.{Directory, File, LinkText}
 use Rattle.path_walk.specs.Store.{Store, names_at}
-use Rattle.path_walk.specs.Paths.{parts_of, slash_of}
+use Rattle.path_walk.specs.Paths.{is_absolute, parts_of, slash_of}
 
 -- the root directory of a backend
 abbrev pub root_of : ℕ → Spot
@@ -28,9 +27,13 @@ root_of backend = record { backend = backend; directory = 0 }
 abbrev pub station : ℕ → ℕ → Spot → Station
 station names links spot = record { names = names; links = links; spot = spot }
 
--- where every path starts: in the root
+-- where a walk starts, with all the names and links that one path may take
+abbrev pub start_in : Spot → Station
+start_in spot = station path_names_max symloop_max spot
+
+-- in the root
 abbrev pub path_start : Station
-path_start = station path_names_max symloop_max (root_of 0)
+path_start = start_in (root_of 0)
 
 -- a directory of the same backend
 abbrev pub spot_beside : Spot → ℕ → Spot
@@ -38,8 +41,7 @@ spot_beside here directory = record { backend = here.backend; directory = direct
 
 -- where a text starts: at the root where it begins with a slash, else where it stands
 abbrev pub start_of : List ℕ → Spot → Spot
-start_of [] here = here
-start_of (byte ∷ text) here = if is_slash byte then root_of 0 else here
+start_of text here = if is_absolute text then root_of 0 else here
 
 -- what is still to be walked, and from where: the parts, the slash flag, and how many links may still be followed
 pub record Way : Type 0 where

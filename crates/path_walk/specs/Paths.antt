@@ -1,6 +1,5 @@
--- The components of a path, after POSIX.1-2017, XBD 4.13. That a path without a slash at its front starts at
--- the root too, and the limits, are this project's own.
-use Rattle.std.specs.Prelude.{ℕ, ◌==◌, ◌-◌, ◌&&◌, Bool, if◌then◌else◌, not, nat_lt, List, length, map, filter, take, Option, None, Some, slice_get, slice_index_or}
+-- The components of a path, after POSIX.1-2017, XBD 4.13. The limits are this project's own.
+use Rattle.std.specs.Prelude.{ℕ, ◌==◌, ◌-◌, ◌&&◌, Bool, false, if◌then◌else◌, not, nat_lt, List, [], ◌∷◌, length, map, filter, take, Option, None, Some, slice_get, slice_index_or}
 use Rattle.std.specs.List.{slice_split}
 use Rattle.wf_core.specs.Limits.{name_max, path_max}
 use Rattle.wf_core.specs.Names.{is_slash, is_dot, is_dot_dot}
@@ -47,6 +46,11 @@ path_fault path =
     if length path == 0 then Some Enoent
     else if nat_lt (path_max - 1) (length path) then Some Enametoolong
     else None
+
+-- a path that begins with a slash starts in the root (XBD 4.13)
+abbrev pub is_absolute : List ℕ → Bool
+is_absolute [] = false
+is_absolute (byte ∷ path) = is_slash byte
 
 abbrev pub ends_in_slash : List ℕ → Bool
 ends_in_slash path = is_slash (slice_index_or path (length path - 1) 0)

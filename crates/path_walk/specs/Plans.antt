@@ -1,29 +1,35 @@
 -- What a call does, as a plan: which paths it walks, what it asks for, and what it replies.
-use Rattle.std.specs.Prelude.{ℕ, ◌%◌, List, Option, None, Some, Result, Ok, Err}
+use Rattle.std.specs.Prelude.{ℕ, ◌%◌, List, Option, None, Some, Result, Ok, Err, unwrap_or}
 use Rattle.wf_core.specs.Limits.{group_count}
 use Rattle.wf_core.specs.declared.errno.Errno.{Errno}
-use Rattle.wf_core.specs.declared.errno.Errno.TheVariants.{Enoent, Ecanceled, Enxio}
+use Rattle.wf_core.specs.declared.errno.Errno.TheVariants.{Enoent, Enotdir, Ecanceled, Enxio}
 use Rattle.name_store.specs.declared.operation.NameAnswer.{NameAnswer}
 use Rattle.name_store.specs.declared.operation.NameAnswer.TheVariants as answer
 use Rattle.file_store.specs.declared.file_operation.FileAnswer.{FileAnswer}
 use Rattle.file_store.specs.declared.file_operation.FileAnswer.TheVariants as file_answer
+use Rattle.file_store.specs.declared.descriptor_operation.FdOp.{FdOp}
+use Rattle.file_store.specs.declared.descriptor_operation.FdOp.TheVariants as fd
 use Rattle.file_store.specs.declared.descriptor_operation.FdAnswer.{FdAnswer}
 use Rattle.file_store.specs.declared.descriptor_operation.FdAnswer.TheVariants as fd_answer
 use Rattle.path_walk.specs.declared.route.Manner.{Manner}
 use Rattle.path_walk.specs.declared.route.Manner.TheVariants.{OnWay}
+use Rattle.path_walk.specs.declared.route.Spot.{Spot}
 use Rattle.path_walk.specs.declared.route.Station.{Station}
 use Rattle.path_walk.specs.declared.route.End.{End}
 use Rattle.path_walk.specs.declared.route.Route.{Route}
 use Rattle.path_walk.specs.declared.step.CellId.{CellId}
-use Rattle.path_walk.specs.declared.step.CellId.TheVariants.{Files as FilesCell}
+use Rattle.path_walk.specs.declared.step.CellId.TheVariants.{Files as FilesCell, Descriptors as DescriptorsCell}
 use Rattle.path_walk.specs.declared.step.StoreOp.{StoreOp}
+use Rattle.path_walk.specs.declared.step.StoreOp.TheVariants.{Descriptors as DescriptorsOp}
 use Rattle.path_walk.specs.declared.step.StoreAnswer.TheVariants.{Names as NamesAnswer, Files as FilesAnswer, Descriptors as DescriptorsAnswer}
 use Rattle.path_walk.specs.declared.step.StepAnswer.{StepAnswer}
 use Rattle.path_walk.specs.declared.step.StepAnswer.TheVariants.{Answered, Cancelled, Closed}
+use Rattle.path_walk.specs.declared.call.Base.{Base}
+use Rattle.path_walk.specs.declared.call.Base.TheVariants.{Cwd, Fd}
 use Rattle.path_walk.specs.declared.call.Reply.{Reply}
 use Rattle.path_walk.specs.declared.call.Reply.TheVariants as reply
 use Rattle.path_walk.specs.Paths.{parts_of, last_of, front_of, slash_of, path_fault}
-use Rattle.path_walk.specs.PathMeaning.{resolve}
+use Rattle.path_walk.specs.PathMeaning.{resolve, root_of, start_in}
 use Rattle.path_walk.specs.Store.{Store, cstep}
 use Rattle.path_walk.specs.Programs.{Program, finished, asks, CallOutcome, replied}
 use Rattle.path_walk.specs.Walk.{walk}
@@ -121,3 +127,28 @@ fault_in Closed = Some Enxio
 abbrev pub unless_told : Option Errno → Reply → Reply
 unless_told (Some error) given = reply.Fault error
 unless_told None given = given
+
+-- Starts.
+
+-- the step that tells which directory is the base
+abbrev pub op_of_base : Base → FdOp
+op_of_base Cwd = fd.Cwd
+op_of_base (Fd number) = fd.Look number
+
+-- the directory that its answer names; what else a number names is none
+abbrev pub spot_in : StepAnswer → Result Spot Errno
+spot_in (Answered (DescriptorsAnswer (fd_answer.Dir backend directory))) = Ok (record { backend = backend; directory = directory })
+spot_in given = Err (unwrap_or (fault_in given) Enotdir)
+
+-- from the directory that is the base, after the step that tells it, or from the root, without one
+abbrev pub from_base : Option Base → (Result Spot Errno → Plan) → Plan
+from_base None next = next (Ok (root_of 0))
+from_base (Some base) next = steps DescriptorsCell (DescriptorsOp (op_of_base base)) (λ given. next (spot_in given))
+
+abbrev pub walks_in : Route → (Result End Errno → Plan) → Result Spot Errno → Plan
+walks_in route next (Ok spot) = walks (start_in spot) route next
+walks_in route next (Err error) = next (Err error)
+
+-- along a route from there. A start that is not there ends the walk
+abbrev pub walks_from : Option Base → Route → (Result End Errno → Plan) → Plan
+walks_from base route next = from_base base (walks_in route next)

@@ -5,6 +5,7 @@ ghost use Rattle.path_walk.specs.Backing.{IsCellOf, IsAnswerOf};
 ghost use Rattle.path_walk.specs.Programs.{Step, step_of, Begins};
 ghost use Rattle.path_walk.specs.Posix.{Walk, program};
 ghost use Rattle.path_walk.specs.Alone.{StepsAlone, CallsAlone};
+ghost use Rattle.path_walk.specs.Calls.{IsVersion, act_of};
 ghost use Rattle.path_walk.specs.declared.call.Call.{Call};
 ghost use Rattle.path_walk.specs.declared.trail.Stage.TheVariants.{Start};
 
@@ -40,36 +41,43 @@ pub trait Backends {
     ghost ran_on: { (a b c : Self) (s t : List Step) → ran a s b → ran b t c → ran a (s ++ t) c };
 }
 
-/// Performs a call: takes its steps on the backends, at most `CALL_STEPS_MAX`, and gives its reply.
+/// Performs a call of a trace of that version: takes its steps on the backends, at most `CALL_STEPS_MAX`, and gives its
+/// reply.
 pub fn perform<B: Backends>(
     alloc: Global,
     call: Call,
     backends: &mut B,
+    version: u32,
 ) -> Result<Reply, AllocError>
+    requires { IsVersion version }
+
     // The steps that were taken in this call, in order, are the call's, and the reply is theirs.
     ensures walk { (steps : List Step) × B.ran backends.old steps backends.new
         × (length steps ≤ call_steps_max)
-        × MatchResult result (λ reply. Walk call steps reply) (λ _. Begins (program call) steps) }
+        × MatchResult result (λ reply. Walk version call steps reply)
+        (λ _. Begins (program version call) steps) }
 
     // Where nobody else changes the store, the reply and the store are those of the call at once.
     ensures alone { IfOk result
-        (λ reply. CallsAlone (B.store backends.old) call reply (B.store backends.new)) }
+        (λ reply. CallsAlone version (B.store backends.old) call reply (B.store backends.new)) }
 
     ensures same { B.backends backends.new ≡ B.backends backends.old }
 {
-    let mut machine = CallMachine::new(alloc, call);
+    let mut machine = CallMachine::new(alloc, call, version);
     take_steps(&mut machine, backends)
 }
 
 /// Takes the steps of a call that is not begun.
 fn take_steps<B: Backends>(machine: &mut CallMachine, backends: &mut B) -> Result<Reply, AllocError>
-    requires { (call : Call) × (machine.old ≡ Start call) }
-    ensures walk { (call : Call) → machine.old ≡ Start call
+    requires { (version : ℕ) × (call : Call) × (machine.old ≡ Start (act_of version call)) }
+    ensures walk { (version : ℕ) (call : Call) → machine.old ≡ Start (act_of version call)
         → (steps : List Step) × B.ran backends.old steps backends.new
         × (length steps ≤ call_steps_max)
-        × MatchResult result (λ reply. Walk call steps reply) (λ _. Begins (program call) steps) }
-    ensures alone { (call : Call) → machine.old ≡ Start call → IfOk result
-        (λ reply. CallsAlone (B.store backends.old) call reply (B.store backends.new)) }
+        × MatchResult result (λ reply. Walk version call steps reply)
+        (λ _. Begins (program version call) steps) }
+    ensures alone { (version : ℕ) (call : Call) → machine.old ≡ Start (act_of version call)
+        → IfOk result (λ reply. CallsAlone version (B.store backends.old) call reply
+        (B.store backends.new)) }
     ensures same { B.backends backends.new ≡ B.backends backends.old }
 {
     let mut answer = None;

@@ -4,7 +4,16 @@ use file_store::Whence;
 use name_store::NameList;
 use wf_core::{Errno, PathText, Text};
 
-/// A file call, after POSIX.1-2017, XSH; `List` is after readdir().
+/// Where a path of a call starts, unless it begins with a slash: the `fd` of POSIX's `mkdirat` and its like.
+#[derive(Clone, Copy, Debug, PartialEq, Eq)]
+pub enum Base {
+    /// In the current directory, as `AT_FDCWD` says.
+    Cwd,
+    /// In the directory that the number names.
+    Fd(u32),
+}
+
+/// A file call, after POSIX.1-2017, XSH; `List` is after readdir(), and `Rmdirat` is `unlinkat` with `AT_REMOVEDIR`.
 #[derive(Debug, Drop)]
 pub enum Call {
     /// Makes a directory.
@@ -71,6 +80,22 @@ pub enum Call {
     },
     /// Asks what a number names.
     Fstat(u32),
+    /// Has the current directory be the one that the path names.
+    Chdir(PathText),
+    /// Has the current directory be the one that the number names.
+    Fchdir(u32),
+    /// As `Open`, from a base.
+    Openat(Base, PathText, OpenFlags),
+    /// As `Mkdir`, from a base.
+    Mkdirat(Base, PathText),
+    /// As `Rmdir`, from a base.
+    Rmdirat(Base, PathText),
+    /// As `Unlink`, from a base.
+    Unlinkat(Base, PathText),
+    /// As `Stat`, from a base.
+    Fstatat(Base, PathText),
+    /// As `Rename`, each path from its base.
+    Renameat(Base, PathText, Base, PathText),
 }
 
 /// What a file call replies.

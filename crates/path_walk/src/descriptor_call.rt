@@ -1,13 +1,14 @@
 ghost use Rattle.std.specs.Prelude.{◌≡◌};
-ghost use Rattle.path_walk.specs.Plans.{fault_in, program_of, replies, unless_told};
-ghost use Rattle.path_walk.specs.DescriptorCalls.{changes_numbers, number_plan, op_of_data, releases, reply_of_directory, data_step_plan, data_plan};
+ghost use Rattle.path_walk.specs.Plans.{fault_in, program_of, replies, spot_in, unless_told};
+ghost use Rattle.path_walk.specs.DescriptorCalls.{changes_numbers, enters, enters_number, number_plan, op_of_data, releases, reply_of_directory, data_step_plan, data_plan};
 ghost use Rattle.path_walk.specs.Machine.{Shows};
 
 use crate::call::Reply;
 use crate::goal::step_on_file;
-use crate::reply::{fault_in, reply_to, unless_told};
+use crate::reply::{fault_in, reply_to, spot_in, unless_told};
+use crate::route::Spot;
 use crate::step::{CellId, StepAnswer, StoreAnswer, StoreOp};
-use crate::trail::{Pause, Stage, over, step};
+use crate::trail::{Pause, Stage, fault, over, step};
 use file_store::{FdAnswer, FdOp, FileOp, Whence};
 use wf_core::{BackendId, DescriptionId, Errno, Text};
 
@@ -152,4 +153,39 @@ pub(crate) fn after_release(reply: Reply, answer: StepAnswer) -> Pause
         (program_of (replies (unless_told (fault_in answer) reply))) result.stage }
 {
     over(unless_told(fault_in(&answer), reply))
+}
+
+/// Has the current directory be that one.
+pub(crate) fn enter(there: Result<Spot, Errno>) -> Pause
+    ensures { Shows result.need (program_of (enters there)) result.stage }
+{
+    match there {
+        Ok(spot) => step(
+            Stage::Last,
+            CellId::Descriptors,
+            StoreOp::Descriptors(FdOp::Setcwd {
+                backend: BackendId::new(spot.backend),
+                dir: spot.dir(),
+            }),
+        ),
+        Err(errno) => fault(errno),
+    }
+}
+
+/// Begins `fchdir`.
+pub(crate) fn enter_number(number: u32) -> Pause
+    ensures { Shows result.need (program_of (enters_number number)) result.stage }
+{
+    step(
+        Stage::Entering,
+        CellId::Descriptors,
+        StoreOp::Descriptors(FdOp::Look(number)),
+    )
+}
+
+/// What follows the answer to its first step.
+pub(crate) fn after_enter(answer: StepAnswer) -> Pause
+    ensures { Shows result.need (program_of (enters (spot_in answer))) result.stage }
+{
+    enter(spot_in(&answer))
 }

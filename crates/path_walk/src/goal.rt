@@ -1,15 +1,16 @@
 ghost use Rattle.std.specs.Prelude.{◌≡◌, ◌==◌, Ok, Err};
 ghost use Rattle.path_walk.specs.Plans.{cell_of_id, program_of};
-ghost use Rattle.path_walk.specs.Calls.{move_on, change_plan, faults_of, last_fault, last_faults, last_step, list_plan, move_faults, move_plan, move_step, name_of, op_of, parent_of, slash_fault, status_plan, text_fault, text_plan};
+ghost use Rattle.path_walk.specs.Calls.{move_on, change_fault, change_plan, directory_in, faults_of, last_fault, last_faults, last_step, list_plan, move_faults, move_plan, move_step, name_of, op_of, parent_of, slash_fault, status_plan, text_fault, text_plan};
 ghost use Rattle.path_walk.specs.declared.call.Need.{Need};
 ghost use Rattle.path_walk.specs.declared.trail.Stage.{Stage};
 ghost use Rattle.path_walk.specs.Machine.{Shows, Reaches, goal_program};
 
-use crate::call::Reply;
+use crate::call::{Base, Reply};
+use crate::descriptor_call::enter;
 use crate::open_request::OpenRequest;
 use crate::open_stage::end_open;
 use crate::part::{LastName, Part};
-use crate::route::{End, Route, Spot, Station};
+use crate::route::{End, Route, Spot};
 use crate::step::{CellId, StoreOp};
 use crate::trail::{Pause, Stage, Trail, fault, over, step};
 use file_store::FileOp;
@@ -48,8 +49,10 @@ pub(crate) enum Goal {
     Names(u32),
     /// It changes the entry under that last component. The flag says that a slash ends the path.
     Entry(Change, Option<Part>, bool),
-    /// It goes on along the second path of a move.
-    MoveFrom(Option<Part>, bool, Result<Route, Errno>),
+    /// It has the current directory be the one there.
+    Enter,
+    /// It goes on along the second path of a move, from its base.
+    MoveFrom(Option<Part>, bool, Option<Base>, Result<Route, Errno>),
     /// It opens what stands there under a name, with so many walks that there may still be.
     Open(u32, OpenRequest, Option<LastName>),
     /// It moves the entry of the first directory and component. The flag says that a slash ends either path.
@@ -124,6 +127,16 @@ impl Change {
         }
     }
 
+    /// The error before its path.
+    pub(crate) fn early_fault(&self) -> Option<Errno>
+        ensures { result ≡ change_fault self.now }
+    {
+        match self {
+            Change::Addlink(text) => text_fault(text),
+            _ => None,
+        }
+    }
+
     fn last_step(self, last: Option<Part>, slash: bool, spot: Spot) -> Pause
         ensures { Shows result.need (program_of (change_plan self last slash spot)) result.stage }
     {
@@ -139,7 +152,7 @@ impl Change {
 }
 
 /// The error of a link's text.
-pub(crate) fn text_fault(text: &PathText) -> Option<Errno>
+fn text_fault(text: &PathText) -> Option<Errno>
     ensures { result ≡ text_fault text.now }
 {
     let length = text.as_bytes().len();
@@ -175,11 +188,11 @@ fn last_step(backend: u32, op: NameOp) -> Pause
 
 /// The last step of a call on a file.
 pub(crate) fn step_on_file(backend: u32, file: u64, op: FileOp) -> Pause
-    ensures { (result.stage ≡ Stage.LastOnFiles)
+    ensures { (result.stage ≡ Stage.Last)
         × (result.need ≡ Need.Step (cell_of_id backend file) (StoreOp.Files op)) }
 {
     step(
-        Stage::LastOnFiles,
+        Stage::Last,
         CellId::of_id(backend, file),
         StoreOp::Files(op),
     )
@@ -250,6 +263,15 @@ fn names(start: u32, end: End) -> Pause
     }
 }
 
+fn directory(end: End) -> Result<Spot, Errno>
+    ensures { result ≡ directory_in (Ok end) }
+{
+    match end {
+        End::Directory(station) => Ok(station.spot),
+        End::File(_, _) | End::LinkText(_) => Err(Errno::Enotdir),
+    }
+}
+
 /// The directory at the end of the path before its last component, if that may still be taken.
 fn parent(last: &Option<Part>, end: End) -> Result<Spot, Errno>
     ensures { result ≡ parent_of last.now end }
@@ -293,6 +315,7 @@ impl Goal {
             Goal::Status => Reached::Pause(status(end)),
             Goal::Text => Reached::Pause(text(end)),
             Goal::Names(start) => Reached::Pause(names(start, end)),
+            Goal::Enter => Reached::Pause(enter(directory(end))),
             Goal::Entry(change, last, slash) => Reached::Pause(match parent(&last, end) {
                 Ok(spot) => change.last_step(last, slash, spot),
                 Err(errno) => fault(errno),
@@ -306,29 +329,33 @@ impl Goal {
             Goal::Open(walks, request, name) => {
                 Reached::Pause(end_open(walks, request, name, Ok(end)))
             }
-            Goal::MoveFrom(last, slash, new) => match parent(&last, end) {
-                Ok(from) => move_from(last, slash, new, from),
+            Goal::MoveFrom(last, slash, base, new) => match parent(&last, end) {
+                Ok(from) => move_from(last, slash, base, new, from),
                 Err(errno) => Reached::Pause(fault(errno)),
             },
         }
     }
 }
 
-fn move_from(last: Option<Part>, slash: bool, new: Result<Route, Errno>, from: Spot) -> Reached
-    ensures { Reaches (Goal.MoveFrom last slash new)
-        (program_of (move_on last slash new from)) result }
+fn move_from(
+    last: Option<Part>,
+    slash: bool,
+    base: Option<Base>,
+    new: Result<Route, Errno>,
+    from: Spot,
+) -> Reached
+    ensures { Reaches (Goal.MoveFrom last slash base new)
+        (program_of (move_on last slash base new from)) result }
 {
     match new {
         Err(errno) => Reached::Pause(fault(errno)),
         Ok(route) => {
             let goal = Goal::MoveTo(from, last, slash | route.slash, route.last);
-            Reached::Trail(Trail::new(
-                Station::start(),
-                route.parts,
-                route.manner,
-                route.slash,
-                goal,
-            ))
+            let trail = Trail::from_root(route.parts, route.manner, route.slash, goal);
+            match base {
+                None => Reached::Trail(trail),
+                Some(base) => Reached::Pause(trail.ask_start(base)),
+            }
         }
     }
 }

@@ -1,22 +1,24 @@
 ghost use Rattle.std.specs.Prelude.{◌≡◌, IfOk, OnErr, None, Some};
-ghost use Rattle.path_walk.specs.Posix.{program};
+ghost use Rattle.path_walk.specs.PathMeaning.{path_start};
 ghost use Rattle.path_walk.specs.Plans.{program_of};
-ghost use Rattle.path_walk.specs.Calls.{plan_after, unlinked_by};
-ghost use Rattle.path_walk.specs.Machine.{Expects, IsOpeningFile, IsPlain, IsStart, IsWalking, Shows, fault_of, goal_of, left_at, link_route, new_route_of, open_route_of, resumed, route_of};
+ghost use Rattle.path_walk.specs.Calls.{IsVersion, act_of, act_plan, plan_after, unlinked_by};
+ghost use Rattle.path_walk.specs.Machine.{Expects, IsOpeningFile, IsPlain, IsStart, IsWalking, Shows, base_of, begun, goal_of, left_at, link_route, new_route_of, open_route_of, resumed, route_of, trail_from};
 ghost use Rattle.path_walk.specs.declared.trail.Stage.{Stage};
 ghost use Rattle.path_walk.specs.declared.trail.Stage.TheVariants.{Start};
 
+use crate::act::Act;
 use crate::call::{Call, Need};
-use crate::descriptor_call::{DataCall, after_numbers, after_release, change_numbers};
-use crate::goal::{Change, Goal, step_on_file, text_fault};
+use crate::descriptor_call::{
+    after_enter, after_numbers, after_release, change_numbers, enter_number,
+};
+use crate::goal::step_on_file;
 use crate::open_request::OpenRoute;
 use crate::open_stage::open;
-use crate::part::Part;
 use crate::reply::reply_to;
-use crate::route::{End, Manner, Route, Station};
+use crate::route::{End, Route};
 use crate::step::{StepAnswer, StoreAnswer};
 use crate::trail::{Advance, Onward, Pause, Stage, Trail, fault, node_in, over};
-use file_store::{FdOp, FileOp};
+use file_store::FileOp;
 use name_store::NameAnswer;
 use std::alloc::{AllocError, Global};
 use std::marker::Model;
@@ -37,13 +39,14 @@ impl Model for CallMachine {
 }
 
 impl CallMachine {
-    /// The machine of a call that is not begun.
-    pub fn new(alloc: Global, call: Call) -> CallMachine
-        ensures { result ≡ Start call }
+    /// The machine of a call that is not begun, in a trace of that version.
+    pub fn new(alloc: Global, call: Call, version: u32) -> CallMachine
+        requires { IsVersion version }
+        ensures { result ≡ Start (act_of version call) }
     {
         CallMachine {
             alloc,
-            stage: Stage::Start(call),
+            stage: Stage::Start(call.act(version)),
         }
     }
 
@@ -65,12 +68,12 @@ impl CallMachine {
         ensures ok { IfOk result (λ need. Shows need (resumed self.old None) self.new) }
         ensures err { OnErr result (self.new ≡ self.old) }
     {
-        let Stage::Start(call) = &self.stage else {
+        let Stage::Start(act) = &self.stage else {
             unreachable!();
         };
-        let route = route_of(self.alloc, call)?;
-        let new = new_route_of(self.alloc, call)?;
-        let to_open = open_route_of(self.alloc, call)?;
+        let route = act.route(self.alloc)?;
+        let new = act.new_route(self.alloc)?;
+        let to_open = act.open_route(self.alloc)?;
         let stage = mem::replace(&mut self.stage, Stage::Over);
         Ok(self.take(begin(stage, route, new, to_open)))
     }
@@ -162,7 +165,9 @@ fn after_step(stage: Stage, answer: StepAnswer) -> Pause
 {
     match stage {
         Stage::LastOnNames(backend) => after_names(backend, answer),
-        Stage::LastOnFiles => over(reply_to(answer)),
+        Stage::Starting(trail) => trail.start(answer),
+        Stage::Entering => after_enter(answer),
+        Stage::Last => over(reply_to(answer)),
         Stage::Looking(call) => call.after_look(answer),
         Stage::LastOnDescriptors => after_numbers(answer),
         Stage::Releasing(reply) => after_release(reply, answer),
@@ -193,76 +198,6 @@ fn after_walk(stage: Stage, end: Result<End, Errno>) -> Pause
     }
 }
 
-/// The path that a call walks first, unless it begins with a step.
-fn route_of(alloc: Global, call: &Call) -> Result<Option<Result<Route, Errno>>, AllocError>
-    ensures { IfOk result (λ route. route ≡ route_of call.now) }
-{
-    match call {
-        Call::Mkdir(path)
-        | Call::Rmdir(path)
-        | Call::Unlink(path)
-        | Call::Symlink(_, path)
-        | Call::Rename(path, _) => Ok(Some(Route::parent(alloc, path)?)),
-        Call::Readlink(path) | Call::Lstat(path) => {
-            Ok(Some(Route::whole(alloc, Manner::Stays, path)?))
-        }
-        Call::Stat(path) | Call::List(path, _) => {
-            Ok(Some(Route::whole(alloc, Manner::Follows, path)?))
-        }
-        _ => Ok(None),
-    }
-}
-
-/// The other path of a move.
-fn new_route_of(alloc: Global, call: &Call) -> Result<Option<Result<Route, Errno>>, AllocError>
-    ensures { IfOk result (λ route. route ≡ new_route_of call.now) }
-{
-    match call {
-        Call::Rename(_, new) => Ok(Some(Route::parent(alloc, new)?)),
-        _ => Ok(None),
-    }
-}
-
-/// The path that a call opens.
-fn open_route_of(alloc: Global, call: &Call) -> Result<Option<Result<OpenRoute, Errno>>, AllocError>
-    ensures { IfOk result (λ route. route ≡ open_route_of call.now) }
-{
-    match call {
-        Call::Open(path, _) => Ok(Some(OpenRoute::of(alloc, path)?)),
-        _ => Ok(None),
-    }
-}
-
-/// The error of a call before any path of it.
-fn fault_of(call: &Call) -> Option<Errno>
-    ensures { result ≡ fault_of call.now }
-{
-    match call {
-        Call::Symlink(text, _) => text_fault(text),
-        _ => None,
-    }
-}
-
-/// What a call does at the end of its first path.
-fn goal_of(call: Call, last: Option<Part>, slash: bool, new: Option<Result<Route, Errno>>) -> Goal
-    requires { new ≡ new_route_of call }
-    ensures { result ≡ goal_of call last slash }
-{
-    match call {
-        Call::Mkdir(_) => Goal::Entry(Change::Makedir, last, slash),
-        Call::Rmdir(_) => Goal::Entry(Change::Remdir, last, slash),
-        Call::Unlink(_) => Goal::Entry(Change::Remfile, last, slash),
-        Call::Symlink(text, _) => Goal::Entry(Change::Addlink(text), last, slash),
-        Call::Rename(_, _) => match new {
-            Some(new) => Goal::MoveFrom(last, slash, new),
-            None => unreachable!(),
-        },
-        Call::Readlink(_) => Goal::Text,
-        Call::List(_, start) => Goal::Names(start),
-        _ => Goal::Status,
-    }
-}
-
 /// Begins the call of a stage, with the paths of it that are read.
 fn begin(
     stage: Stage,
@@ -274,96 +209,81 @@ fn begin(
     ensures { Shows result.need (resumed stage None) result.stage }
 {
     match stage {
-        Stage::Start(call) => match route {
-            Some(route) => begin_walk(call, route, new),
-            None => begin_step(call, to_open),
+        Stage::Start(act) => match route {
+            Some(route) => begin_walk(act, route, new),
+            None => begin_step(act, to_open),
         },
         _ => unreachable!(),
     }
 }
 
 /// Begins a call with its first step.
-fn begin_step(call: Call, to_open: Option<Result<OpenRoute, Errno>>) -> Pause
-    requires first { None ≡ route_of call }
-    requires open { to_open ≡ open_route_of call }
-    ensures { Shows result.need (program call) result.stage }
+fn begin_step(act: Act, to_open: Option<Result<OpenRoute, Errno>>) -> Pause
+    requires first { None ≡ route_of act }
+    requires open { to_open ≡ open_route_of act }
+    ensures { Shows result.need (program_of (act_plan act)) result.stage }
 {
     match to_open {
-        Some(route) => begin_open(call, route),
-        None => begin_on_number(call),
+        Some(route) => begin_open(act, route),
+        None => begin_on_number(act),
     }
 }
 
-fn begin_open(call: Call, route: Result<OpenRoute, Errno>) -> Pause
-    requires { Some route ≡ open_route_of call }
-    ensures { Shows result.need (program call) result.stage }
+fn begin_open(act: Act, route: Result<OpenRoute, Errno>) -> Pause
+    requires { Some route ≡ open_route_of act }
+    ensures { Shows result.need (program_of (act_plan act)) result.stage }
 {
-    match call {
-        Call::Open(_, flags) => open(flags, route),
+    match act {
+        Act::Open(at, flags) => open(flags, at.base, route),
         _ => unreachable!(),
     }
 }
 
 /// Begins a call on what a number names.
-fn begin_on_number(call: Call) -> Pause
-    requires first { None ≡ route_of call }
-    requires open { None ≡ open_route_of call }
-    ensures { Shows result.need (program call) result.stage }
+fn begin_on_number(act: Act) -> Pause
+    requires first { None ≡ route_of act }
+    requires open { None ≡ open_route_of act }
+    ensures { Shows result.need (program_of (act_plan act)) result.stage }
 {
-    match call {
-        Call::Close(number) => change_numbers(FdOp::Take(number)),
-        Call::Dup(number) => change_numbers(FdOp::Copy(number)),
-        Call::Dup2 { number, target } => change_numbers(FdOp::Copyto { number, target }),
-        Call::Read { number, count } => DataCall::Read(count).begin(number),
-        Call::Pread {
-            number,
-            count,
-            offset,
-        } => DataCall::Pread(count, offset).begin(number),
-        Call::Write { number, bytes } => DataCall::Write(bytes).begin(number),
-        Call::Pwrite {
-            number,
-            bytes,
-            offset,
-        } => DataCall::Pwrite(bytes, offset).begin(number),
-        Call::Seek {
-            number,
-            offset,
-            whence,
-        } => DataCall::Seek(offset, whence).begin(number),
-        Call::Ftruncate { number, size } => DataCall::Ftruncate(size).begin(number),
-        Call::Fstat(number) => DataCall::Fstat.begin(number),
+    match act {
+        Act::EnterNumber(number) => enter_number(number),
+        Act::Numbers(op) => change_numbers(op),
+        Act::Data(number, data) => data.begin(number),
         _ => unreachable!(),
     }
 }
 
 /// Begins a call along its routes.
-fn begin_walk(call: Call, route: Result<Route, Errno>, new: Option<Result<Route, Errno>>) -> Pause
-    requires first { Some route ≡ route_of call }
-    requires other { new ≡ new_route_of call }
-    ensures { Shows result.need (program call) result.stage }
+fn begin_walk(act: Act, route: Result<Route, Errno>, new: Option<Result<Route, Errno>>) -> Pause
+    requires first { Some route ≡ route_of act }
+    requires other { new ≡ new_route_of act }
+    ensures { Shows result.need (program_of (act_plan act)) result.stage }
 {
-    if let Some(errno) = fault_of(&call) {
+    if let Some(errno) = act.early_fault() {
         return fault(errno);
     }
     match route {
         Err(errno) => fault(errno),
-        Ok(
-            Route {
-                parts,
-                last,
-                manner,
-                slash,
-            },
-        ) => Trail::new(
-            Station::start(),
-            parts,
-            manner,
-            slash,
-            goal_of(call, last, slash, new),
-        )
-        .proceed(),
+        Ok(route) => begin_along(act, route, new),
     }
+}
+
+/// Begins a call along a route that may be walked.
+fn begin_along(act: Act, route: Route, new: Option<Result<Route, Errno>>) -> Pause
+    requires first { Some (Ok route) ≡ route_of act }
+    requires other { new ≡ new_route_of act }
+    ensures { Shows result.need (begun (base_of act)
+        (trail_from path_start route.parts route.manner route.slash
+        (goal_of act route.last route.slash))) result.stage }
+{
+    let Route {
+        parts,
+        last,
+        manner,
+        slash,
+    } = route;
+    let base = act.base();
+    Trail::from_root(parts, manner, slash, act.goal(last, slash, new)).begin(base)
 }
 
 /// The file that a step on names has left without an entry.

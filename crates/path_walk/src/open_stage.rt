@@ -1,6 +1,8 @@
 ghost use Rattle.std.specs.Prelude.{◌≡◌, ◌==◌, IfOk, Some};
-ghost use Rattle.path_walk.specs.Plans.{fault_in, program_of, replies, steps, unless_fault};
-ghost use Rattle.path_walk.specs.OpenPlan.{added_plan, attached_plan, description_in, drops, drops_by, file_in, fills, flags_fault, follows, found_plan, looked_plan, looks, made_plan, makes, meant_plan, open_end, opens_along, opens_by, opens_directory, opens_file, reserved_plan, route_to, unlinked_plan, unmakes, unless_drops};
+ghost use Rattle.path_walk.specs.declared.step.StepAnswer.{StepAnswer};
+ghost use Rattle.path_walk.specs.declared.step.StoreAnswer.{StoreAnswer};
+ghost use Rattle.path_walk.specs.Plans.{from_base, fault_in, program_of, replies, steps, unless_fault};
+ghost use Rattle.path_walk.specs.OpenPlan.{added_plan, attached_plan, description_in, drops, drops_by, file_in, fills, flags_fault, follows, found_plan, looked_plan, looks, made_plan, makes, meant_plan, open_end, opens_along, opens_by, opens_directory, opens_file, opens_in, reserved_plan, route_to, unlinked_plan, unmakes, unless_drops};
 ghost use Rattle.path_walk.specs.OpenStages.{route_at, route_in, stage_plan, text_route};
 ghost use Rattle.path_walk.specs.Machine.{Shows};
 ghost use Rattle.path_walk.specs.declared.call.Reply.{Reply};
@@ -9,7 +11,7 @@ ghost use Rattle.path_walk.specs.declared.step.StoreOp.{StoreOp};
 ghost use Rattle.file_store.specs.declared.descriptor_operation.FdOp.{FdOp};
 ghost use Rattle.path_walk.specs.declared.open_stage.OpenStage.{OpenStage};
 
-use crate::call::Reply;
+use crate::call::{Base, Reply};
 use crate::goal::Goal;
 use crate::open_request::{OpenFlags, OpenRequest, OpenRoute};
 use crate::part::LastName;
@@ -38,8 +40,8 @@ pub(crate) struct AtLastName {
 /// The step whose answer an `open` waits for, beside its walks.
 #[derive(Drop)]
 pub(crate) enum OpenStage {
-    /// The reservation of a number.
-    Reserving(OpenFlags, Result<OpenRoute, Errno>),
+    /// The reservation of a number, for a path from that base.
+    Reserving(OpenFlags, Option<Base>, Result<OpenRoute, Errno>),
     /// The look-up of the last name.
     Looking(AtLastName, Name),
     /// The making of a file for that name.
@@ -346,16 +348,26 @@ impl AtLastName {
             result.stage }
     {
         match answer {
-            StepAnswer::Answered(StoreAnswer::Names(NameAnswer::Done)) => {
-                fill_file(self.request.number, self.station.spot.backend, description)
-            }
-            StepAnswer::Answered(StoreAnswer::Names(NameAnswer::Taken(node))) => {
-                self.unmake(file, description, Ok(node))
-            }
-            StepAnswer::Answered(StoreAnswer::Names(NameAnswer::Gone)) => {
-                self.unmake(file, description, Err(Errno::Enoent))
+            StepAnswer::Answered(StoreAnswer::Names(answer)) => {
+                self.entered(file, description, answer)
             }
             answer => drop_by(self.request.number, &answer),
+        }
+    }
+
+    fn entered(self, file: FileId, description: DescriptionId, answer: NameAnswer) -> Pause
+        ensures { Shows result.need (program_of (added_plan (opens_along self.walks) self.request
+            self.station file description (StepAnswer.Answered (StoreAnswer.Names answer))))
+            result.stage }
+    {
+        match answer {
+            NameAnswer::Done => {
+                fill_file(self.request.number, self.station.spot.backend, description)
+            }
+            NameAnswer::Taken(node) => self.unmake(file, description, Ok(node)),
+            NameAnswer::Gone => self.unmake(file, description, Err(Errno::Enoent)),
+            NameAnswer::Fault(errno) => self.fail(errno),
+            _ => self.fail(Errno::Enoent),
         }
     }
 
@@ -413,42 +425,63 @@ impl AtLastName {
 }
 
 /// Begins an `open`.
-pub(crate) fn open(flags: OpenFlags, route: Result<OpenRoute, Errno>) -> Pause
+pub(crate) fn open(flags: OpenFlags, base: Option<Base>, route: Result<OpenRoute, Errno>) -> Pause
     ensures { Shows result.need (program_of (unless_fault (flags_fault flags)
         (steps CellId.Descriptors (StoreOp.Descriptors FdOp.Reserve)
-        (reserved_plan flags route)))) result.stage }
+        (reserved_plan flags base route)))) result.stage }
 {
     if let Some(errno) = flags.fault() {
         return fault(errno);
     }
     step(
-        Stage::OpeningFile(OpenStage::Reserving(flags, route)),
+        Stage::OpeningFile(OpenStage::Reserving(flags, base, route)),
         CellId::Descriptors,
         StoreOp::Descriptors(FdOp::Reserve),
     )
 }
 
-fn reserved(flags: OpenFlags, route: Result<OpenRoute, Errno>, answer: StepAnswer) -> Pause
-    ensures { Shows result.need (program_of (reserved_plan flags route answer)) result.stage }
+fn reserved(
+    flags: OpenFlags,
+    base: Option<Base>,
+    route: Result<OpenRoute, Errno>,
+    answer: StepAnswer,
+) -> Pause
+    ensures { Shows result.need (program_of (reserved_plan flags base route answer)) result.stage }
 {
     match answer {
         StepAnswer::Answered(StoreAnswer::Descriptors(FdAnswer::Fd(number))) => {
-            open_by(number, flags, route)
+            open_by(number, flags, base, route)
         }
         answer => over(reply_to(answer)),
     }
 }
 
-fn open_by(number: u32, flags: OpenFlags, route: Result<OpenRoute, Errno>) -> Pause
-    ensures { Shows result.need (program_of (opens_by number flags route)) result.stage }
+fn open_by(
+    number: u32,
+    flags: OpenFlags,
+    base: Option<Base>,
+    route: Result<OpenRoute, Errno>,
+) -> Pause
+    ensures { Shows result.need (program_of (opens_by number flags base route)) result.stage }
 {
     match route {
         Err(errno) => drop_number(number, errno),
-        Ok(route) => {
-            let request = OpenRequest::new(number, flags, route.route.slash);
-            open_along(OPEN_WALKS_MAX, request, Station::start(), route)
-        }
+        Ok(route) => open_from(
+            base,
+            OpenRequest::new(number, flags, route.route.slash),
+            route,
+        ),
     }
+}
+
+/// Walks along the path of the call.
+fn open_from(base: Option<Base>, request: OpenRequest, route: OpenRoute) -> Pause
+    ensures { Shows result.need (program_of (from_base base (opens_in request route)))
+        result.stage }
+{
+    let OpenRoute { route, name } = route;
+    let goal = Goal::Open(OPEN_WALKS_MAX - 1, request, name);
+    Trail::from_root(route.parts, route.manner, route.slash, goal).begin(base)
 }
 
 /// The path of a link, which may be followed.
@@ -488,7 +521,7 @@ impl OpenStage {
         ensures { Shows result.need (program_of (stage_plan self answer)) result.stage }
     {
         match self {
-            OpenStage::Reserving(flags, path) => reserved(flags, path, answer),
+            OpenStage::Reserving(flags, base, path) => reserved(flags, base, path, answer),
             OpenStage::Looking(at, name) => { at.looked_up(name, node_in(answer), route) }
             OpenStage::Making(at, name) => at.made(name, answer),
             OpenStage::Adding(at, file, description) => { at.added(file, description, answer) }

@@ -1,7 +1,8 @@
 ghost use Rattle.std.specs.Prelude.{◌≡◌};
-ghost use Rattle.path_walk.specs.Plans.{fault_in, reply_to, reply_to_descriptors, reply_to_files, reply_to_names, unless_told};
+ghost use Rattle.path_walk.specs.Plans.{fault_in, reply_to, reply_to_descriptors, reply_to_files, reply_to_names, spot_in, unless_told};
 
 use crate::call::Reply;
+use crate::route::Spot;
 use crate::step::{StepAnswer, StoreAnswer};
 use file_store::{FdAnswer, FileAnswer};
 use name_store::NameAnswer;
@@ -81,5 +82,20 @@ pub(crate) fn unless_told(told: Option<Errno>, reply: Reply) -> Reply
     match told {
         Some(errno) => Reply::Fault(errno),
         None => reply,
+    }
+}
+
+/// The directory that an answer names. What else it names is none.
+pub(crate) fn spot_in(answer: &StepAnswer) -> Result<Spot, Errno>
+    ensures { result ≡ spot_in answer.now }
+{
+    match answer {
+        StepAnswer::Answered(StoreAnswer::Descriptors(FdAnswer::Dir { backend, dir })) => Ok(
+            Spot {
+                backend: backend.number(),
+                directory: dir.number(),
+            },
+        ),
+        _ => Err(fault_in(answer).unwrap_or(Errno::Enotdir)),
     }
 }

@@ -1,5 +1,5 @@
 ghost use Rattle.std.specs.Prelude.{◌≡◌, ◌==◌, length, not, IfOk};
-ghost use Rattle.path_walk.specs.Paths.{components, ends_in_slash, path_fault, slash_of};
+ghost use Rattle.path_walk.specs.Paths.{components, ends_in_slash, is_absolute, path_fault, slash_of};
 ghost use Rattle.path_walk.specs.PathMeaning.{root_of, spot_beside, start_of, is_followed, path_start};
 ghost use Rattle.path_walk.specs.Plans.{parent_route, whole_route};
 
@@ -76,7 +76,7 @@ impl Spot {
     pub(crate) fn start_of(self, text: &PathText) -> Spot
         ensures { result ≡ start_of text.now self }
     {
-        if text.as_bytes().first() == Some(&b'/') {
+        if is_absolute(text) {
             return Spot::root_of(0);
         }
         self
@@ -93,7 +93,7 @@ pub struct Station {
 }
 
 impl Station {
-    /// Where every path starts.
+    /// In the root, with what one path may take.
     pub(crate) fn start() -> Station
         ensures { result ≡ path_start }
     {
@@ -135,6 +135,13 @@ pub(crate) fn fault_of(path: &PathText) -> Option<Errno>
         return Some(Errno::Enametoolong);
     }
     None
+}
+
+/// Whether the path begins with a slash.
+pub(crate) fn is_absolute(path: &PathText) -> bool
+    ensures { result ≡ is_absolute path.now }
+{
+    path.as_bytes().first() == Some(&b'/')
 }
 
 fn has_component(path: &[u8]) -> bool

@@ -1,16 +1,20 @@
 ghost use Rattle.std.specs.Prelude.{◌≡◌, ◌==◌, ◌<◌, false, Ok, Some, IfOk, OnErr};
-ghost use Rattle.path_walk.specs.PathMeaning.{Course, station};
+ghost use Rattle.path_walk.specs.PathMeaning.{Course, path_start, station};
+ghost use Rattle.path_walk.specs.Plans.{spot_in};
 ghost use Rattle.path_walk.specs.Programs.{finished};
 ghost use Rattle.path_walk.specs.Walk.{node_in};
-ghost use Rattle.path_walk.specs.Machine.{Advances, Meets, Shows, course_along, course_of, goal_program, trail_from, walk_of, way_of, way_up, with_one_name_less};
+ghost use Rattle.path_walk.specs.Machine.{Advances, Meets, Shows, begun, started, trail_at, course_along, course_of, goal_program, trail_from, walk_of, way_of, way_up, with_one_name_less};
 
-use crate::call::{Call, Need, Reply};
+use crate::act::Act;
+use crate::call::{Base, Need, Reply};
 use crate::descriptor_call::DataCall;
 use crate::goal::{Goal, Reached};
 use crate::open_stage::OpenStage;
 use crate::part::{Part, Parts};
+use crate::reply::spot_in;
 use crate::route::{End, Manner, Spot, Station, has_slash};
 use crate::step::{CellId, StepAnswer, StoreAnswer, StoreOp};
+use file_store::FdOp;
 use name_store::{NameAnswer, NameOp, Node};
 use std::alloc::{AllocError, Global};
 use wf_core::{Errno, PathText};
@@ -31,19 +35,23 @@ pub(crate) struct Trail {
 /// How far a call is.
 #[derive(Drop)]
 pub(crate) enum Stage {
-    Start(Call),
+    Start(Act),
+    /// It waits for the directory in which its walk starts.
+    Starting(Trail),
     /// It waits for the answer that leads its walk on.
     Walking(Trail),
     /// It waits for the answer to its last step on the names of that backend.
     LastOnNames(u32),
-    /// It waits for the answer to its last step on files.
-    LastOnFiles,
+    /// It waits for the answer to its last step, which it replies.
+    Last,
     /// It waits for what the number names whose file it is to use.
     Looking(DataCall),
     /// It waits for the answer to a step that frees or copies a number.
     LastOnDescriptors,
     /// It waits for the release of a description, and has that reply.
     Releasing(Reply),
+    /// It waits for the directory that a number names, which is to be the current one.
+    Entering,
     /// It opens a path.
     OpeningFile(OpenStage),
     Over,
@@ -126,6 +134,56 @@ impl Trail {
             spot: from.spot,
             goal,
         }
+    }
+
+    /// The start of a walk in the root, or in the directory that is told later.
+    pub(crate) fn from_root(rest: Parts, manner: Manner, slash: bool, goal: Goal) -> Trail
+        ensures { result ≡ trail_from path_start rest manner slash goal }
+    {
+        Trail::new(Station::start(), rest, manner, slash, goal)
+    }
+
+    /// Begins the walk, in the root or with the step that tells where.
+    pub(crate) fn begin(self, base: Option<Base>) -> Pause
+        ensures { Shows result.need (begun base self) result.stage }
+    {
+        match base {
+            None => self.at(Spot::root_of(0)).proceed(),
+            Some(base) => self.ask_start(base),
+        }
+    }
+
+    /// Asks for the directory in which the walk starts.
+    pub(crate) fn ask_start(self, base: Base) -> Pause
+        ensures { Shows result.need (begun (Some base) self) result.stage }
+    {
+        let op = match base {
+            Base::Cwd => FdOp::Cwd,
+            Base::Fd(number) => FdOp::Look(number),
+        };
+        step(
+            Stage::Starting(self),
+            CellId::Descriptors,
+            StoreOp::Descriptors(op),
+        )
+    }
+
+    /// Goes on from the directory in which the walk starts.
+    pub(crate) fn start(self, answer: StepAnswer) -> Pause
+        ensures { Shows result.need (started self (spot_in answer)) result.stage }
+    {
+        match spot_in(&answer) {
+            Ok(spot) => self.at(spot).proceed(),
+            Err(errno) => self.finish(Err(errno)),
+        }
+    }
+
+    fn at(self, spot: Spot) -> Trail
+        ensures { result ≡ trail_at spot self }
+    {
+        let mut trail = self;
+        trail.spot = spot;
+        trail
     }
 
     /// Follows the trail to the next step of the call.

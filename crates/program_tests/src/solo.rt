@@ -204,6 +204,72 @@ file 1 f 4
 page 0 abXY
 end
 
+> wasmfs-trace 2
+dir 0 /
+end
+
+> wasmfs-trace 1
+> thread A
+> A: chdir /
+line 3: UnknownWord
+
+> wasmfs-trace 2
+> thread A
+> A: mkdir /a
+> A: chdir /a
+> A: mkdir b
+> A: stat /a/b
+> A: open . r
+> A: mkdirat @5 c
+> A: fstatat @5 c
+> A: chdir ..
+> A: rmdir a/b
+> A: unlinkat 9 x
+> A: fstatat 9 /a
+reply A 1 ok
+reply A 2 ok
+reply A 3 ok
+reply A 4 ok dir
+reply A 5 ok 0
+reply A 6 ok
+reply A 7 ok dir
+reply A 8 ok
+reply A 9 ok
+reply A 10 EBADF
+reply A 11 ok dir
+dir 0 /
+dir 1 a
+dir 2 c
+end
+
+> wasmfs-trace 2
+> thread A
+> thread B
+> A: mkdir /a
+> A: chdir a
+> B: mkdir b
+> B: openat cwd f w,creat
+> A: openat cwd . r
+> B: chdir ..
+> A: unlink f
+> A: unlinkat @3 f
+> B: write @2 xyz
+> B: renameat 1 b cwd c
+reply A 1 ok
+reply A 2 ok
+reply B 1 ok
+reply B 2 ok 0
+reply A 3 ok 1
+reply B 3 ok
+reply A 4 ENOENT
+reply A 5 ok
+reply B 4 ok 3
+reply B 5 ok
+dir 0 /
+dir 1 a
+dir 1 c
+end
+
 > wasmfs-trace 1
 > thread A
 > thread B

@@ -9,6 +9,7 @@ use trace_text::{Mode, TraceRefusal, print_trace, read_trace, refusal_line};
 
 mod calls;
 mod limits;
+mod versions;
 
 const FRONT: &str = "wasmfs-trace 1\nthread A\n";
 
@@ -74,7 +75,6 @@ const ENDS: &str = "
 wasmfs-trace 1; = -
 wasmfs-trace 1 = line 1: MissingNewline;
 x = line 1: MissingNewline;
-wasmfs-trace 2; = line 1: Header;
 wasmfs-trace 1 ; = line 1: Header;
 wasmfs-trace 1\r; = line 1: Header;
 \u{feff}wasmfs-trace 1; = line 1: Header;
@@ -139,8 +139,6 @@ A: ; = line 3: UnknownWord;
 A:  stat /; = line 3: UnknownWord;
 A: chmod /a 7; = line 3: UnknownWord;
 A: check; = line 3: UnknownWord;
-A: chdir /a; = line 3: UnknownWord;
-A: openat cwd /a r; = line 3: UnknownWord;
 A: async read 0 1; = line 3: UnknownWord;
 A: via 0 read 0 1; = line 3: UnknownWord;
 A: Stat /; = line 3: UnknownWord;

@@ -1,6 +1,5 @@
 -- Steps of the generator, and the bytes of the paths that draws name.
-use Rattle.std.proofs.Common.{◌≡◌, ◌⊎◌, inl, inr, ℕ, ◌+◌, ◌*◌, ◌/◌, ◌%◌, ◌^◌, ◌<◌, ◌==◌, zero, suc, not, Bool, true, false, ◌&&◌, List, [], ◌∷◌, ◌++◌, length, count_by, codes, cond, refl, sym, ◌∙◌, ap, subst, arith, get_or, set, get_or-set_same, get_or-set_other, length-append, add-one}
-use Rattle.std.specs.List.{list_all}
+use Rattle.std.proofs.Common.{◌≡◌, ◌⊎◌, inl, inr, ℕ, ◌+◌, ◌*◌, ◌%◌, ◌^◌, ◌<◌, ◌==◌, zero, suc, not, Bool, true, false, ◌&&◌, List, [], ◌∷◌, ◌++◌, length, codes, cond, refl, sym, ◌∙◌, ap, arith, get_or, set, get_or-set_same, get_or-set_other, length-append, add-one}
 use Rattle.std.specs.Fmt.{decimal}
 use Rattle.std.proofs.lemmas.Fmt.{decimal_by_steps}
 use Rattle.std.proofs.lemmas.List.Folds.{list_all-append}

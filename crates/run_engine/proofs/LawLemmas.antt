@@ -1,6 +1,5 @@
 -- The draws, the order of the error words, and the counts of a summary.
-use Rattle.std.proofs.Common.{◌≡◌, ℕ, ◌+◌, Bool, true, false, cond, List, [], ◌∷◌, ◌++◌, length, map, drop, count_by, sum_by, refl, sym, ◌∙◌, ap, append_assoc, arith, Option, None, Some}
-use Rattle.std.specs.Prelude.{Contains}
+use Rattle.std.proofs.Common.{◌≡◌, ℕ, ◌+◌, cond, List, [], ◌∷◌, ◌++◌, length, map, drop, count_by, sum_by, refl, sym, ◌∙◌, ap, arith}
 use Rattle.std.specs.List.{flat_map, zip}
 use Rattle.std.proofs.lemmas.Grind.{flat_map-append}
 use Rattle.std.proofs.lemmas.List.Sums.{sum_by-cons}
@@ -13,14 +12,11 @@ use Rattle.path_walk.specs.Store.{Store, names_at}
 use Rattle.path_walk.specs.declared.call.Reply.{Reply}
 use Rattle.path_walk.specs.declared.call.Reply.TheVariants.{Done, Dir, File, Link, Text, Names, Fd, Bytes, Count, At, Fault}
 use Rattle.trace_text.specs.declared.trace.CallLine.{CallLine}
-use Rattle.trace_text.specs.Traces.{Traced}
-use Rattle.trace_text.specs.Texts.{end_line}
-use Rattle.trace_text.specs.SoloText.{Between, after_call_line, backend_line_text, line_text, mounted_text, opening_of_run, replies_text, store_after, store_text}
-use Rattle.run_engine.specs.declared.whole_tree.PlacedLine.{PlacedLine}
+use Rattle.trace_text.specs.SoloText.{Between, after_call_line, backend_line_text, line_text, mounted_text, opening_of_run, replies_text, store_text}
 use Rattle.run_engine.specs.Generated.{state_after}
 use Rattle.run_engine.specs.Summary.{errors_in_order, is_fault_reply, is_ok_reply, replies_to}
 use Rattle.run_engine.specs.WholeTree.{lines_from, mounted_lines, mount_of, placed, placed_text, whole_tree}
-use Rattle.run_engine.specs.Laws.{CountsSumUp, ErrorsStandInOrder, FirstDraws, Rise, SummariesCountTheSoloText, line_of_reply}
+use Rattle.run_engine.specs.Laws.{CountsSumUp, FirstDraws, SummariesCountTheSoloText, line_of_reply}
 
 pub draws_are : FirstDraws
 unfolding state_after

@@ -81,7 +81,7 @@ none_mountable : AreMountable []
 none_mountable = record { few = omega arith; names = refl }
 
 pub mountable : (bytes : List ℕ) (mode : Mode) (trace : Traced) → Reads bytes mode trace → AreMountable trace.backends
-mountable bytes mode trace (lines, are, say) = lines_keep mode (nothing 1) lines trace none_mountable say
+mountable bytes mode trace (version, lines, are, say) = lines_keep mode (nothing version) lines trace none_mountable say
 
 -- bytes that are a trace have no faulty line
 pub no_fault : (bytes : List ℕ) (mode : Mode) (trace : Traced) → Reads bytes mode trace → first_fault bytes mode ≡ None

@@ -1,11 +1,11 @@
 -- The store before the first call.
-use Rattle.std.proofs.Common.{◌≡◌, ℕ, ◌+◌, ◌<◌, ◌≤◌, zero, suc, inl, inr, List, [], ◌∷◌, ◌++◌, length, map, fold, take, Option, Some, slice_get, get_or, refl, sym, ap, subst, ◌∙◌, arith}
+use Rattle.std.proofs.Common.{◌≡◌, ℕ, ◌+◌, ◌<◌, ◌≤◌, zero, suc, List, [], ◌∷◌, ◌++◌, length, map, take, Some, slice_get, get_or, refl, sym, ap, subst, ◌∙◌, arith}
 use Rattle.name_store.proofs.Soundness.{opening_sound}
 use Rattle.path_walk.specs.Store.{Backend, opening_backend}
 use Rattle.trace_text.specs.declared.trace.BackendLine.{BackendLine}
 use Rattle.trace_text.specs.SoloText.{mounts_from, opening_store}
 use Rattle.memory_backend.proofs.MountedNames.{AreBelow, opening_among}
-use Rattle.memory_backend.proofs.SlotsAmong.{opening_among as opening_slots_among}
+use Rattle.memory_backend.proofs.MapAmong.{opening_among as opening_map_among}
 use Rattle.run_engine.specs.RunStores.{IsBackend, IsRunStore}
 
 opening_fits : (backends : ℕ) (mounts : List (List ℕ × ℕ)) → AreBelow backends mounts → IsBackend backends (opening_backend mounts)
@@ -40,7 +40,7 @@ opening_is_store lines =
     record {
       root = omega (arith, all);
       each = each_fits (length (opening_store lines).backends) lines (omega (arith, all));
-      slots = opening_slots_among (length (opening_store lines).backends);
+      descriptors = opening_map_among (length (opening_store lines).backends) (omega (arith, all));
     }
 
 -- the mounts of one backend more

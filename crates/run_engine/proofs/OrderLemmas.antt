@@ -1,5 +1,5 @@
 -- The error words of a summary stand in byte order, and none is left out.
-use Rattle.std.proofs.Common.{refl, ◌<◌, lit<}
+use Rattle.std.proofs.Common.{refl, lit<}
 use Rattle.wf_core.specs.declared.errno.Errno.{Errno}
 use Rattle.wf_core.specs.declared.errno.Errno.TheVariants.{Enoent, Eexist, Enotdir, Eisdir, Enotempty, Einval, Eloop, Enametoolong, Ebadf, Emfile, Efbig, Enospc, Ebusy, Exdev, Eoverflow, Ecanceled, Enxio, Enotsup, Eagain}
 use Rattle.std.specs.Prelude.{Contains}

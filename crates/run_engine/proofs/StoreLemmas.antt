@@ -16,9 +16,9 @@ use Rattle.path_walk.specs.declared.step.StoreAnswer.TheVariants.{Names as Names
 use Rattle.path_walk.specs.Store.{Backend, Store, Stepped, backend_at, with_backend}
 use Rattle.path_walk.specs.Backing.{IsFdOpAmong, DescriptorsAmong}
 use Rattle.run_engine.specs.RunStores.{IsBackend, IsRunStore, IsNamesStep, IsFilesStep, IsDescriptorsStep, backends_of}
-use Rattle.memory_backend.specs.Among.{SlotsAmong}
+use Rattle.memory_backend.specs.Among.{IsMapAmong}
 use Rattle.memory_backend.proofs.MountedNames.{mounts_kept}
-use Rattle.memory_backend.proofs.SlotsAmong.{Keeps, step_keeps}
+use Rattle.memory_backend.proofs.MapAmong.{Keeps, step_keeps}
 
 -- a backend that is there
 at_there : (store : Store) (number : ℕ) (backend : Backend) → slice_get store.backends number ≡ Some backend → backend_at store number ≡ backend
@@ -57,12 +57,12 @@ with_changed store number new is fits = record {
         | inl same ↦ subst (IsBackend (length store.backends)) (sym same) fits
         | inr there ↦ is.each other backend there
       ]);
-  slots = subst (λ (n : ℕ). SlotsAmong n store.descriptors) (sym (length-set store.backends number new)) is.slots;
+  descriptors = subst (λ (n : ℕ). IsMapAmong n store.descriptors) (sym (length-set store.backends number new)) is.descriptors;
 }
 
 -- the store in which the descriptors were changed
-pub with_slots : (store : Store) (new : Map) → IsRunStore store → SlotsAmong (length store.backends) new → IsRunStore (record store { descriptors = new })
-with_slots store new is among = record { root = is.root; each = is.each; slots = among }
+pub with_slots : (store : Store) (new : Map) → IsRunStore store → IsMapAmong (length store.backends) new → IsRunStore (record store { descriptors = new })
+with_slots store new is among = record { root = is.root; each = is.each; descriptors = among }
 
 pub names_fit : (backends : ℕ) (old : Backend) (new : Tree) (op : NameOp) (r : Result NameAnswer AllocError) → IsBackend backends old → IfOk r (λ answer. nstep old.names op ≡ record { tree = new; answer = answer }) → OnErr r (new ≡ old.names) → IsSound new → IsBackend backends (record { names = new; groups = old.groups })
 names_fit backends old new op r is told left sound = record {
@@ -94,10 +94,10 @@ files_told store number group old files new op (Ok answer) here there told =
 files_told store number group old files new op (Err error) here there told = tt
 
 -- a step on the descriptors is the definition's, and keeps to the backends
-pub slots_fit : (store : Store) (new : Map) (op : FdOp) (answer : FdAnswer) → IsRunStore store → IsFdOpAmong (length store.backends) op → dstep store.descriptors op ≡ record { map = new; answer = answer } → SlotsAmong (length store.backends) new × DescriptorsAmong (length store.backends) answer
+pub slots_fit : (store : Store) (new : Map) (op : FdOp) (answer : FdAnswer) → IsRunStore store → IsFdOpAmong (length store.backends) op → dstep store.descriptors op ≡ record { map = new; answer = answer } → IsMapAmong (length store.backends) new × DescriptorsAmong (length store.backends) answer
 slots_fit store new op answer is fits told =
-    let keeps = subst (Keeps (length store.backends)) told (step_keeps (length store.backends) store.descriptors is.slots op fits) in
-    (keeps.slots, keeps.answer)
+    let keeps = subst (Keeps (length store.backends)) told (step_keeps (length store.backends) store.descriptors is.descriptors op fits) in
+    (keeps.map, keeps.answer)
 
 pub slots_told : (store : Store) (new : Map) (op : FdOp) (answer : FdAnswer) → dstep store.descriptors op ≡ record { map = new; answer = answer } → IsDescriptorsStep store op (record store { descriptors = new }) answer
 slots_told store new op answer told = ap (λ (o : DescriptorsOutcome). let s : Stepped = record { store = record store { descriptors = o.map }; answer = DescriptorsAnswer o.answer } in s) told

@@ -9,6 +9,7 @@ use Rattle.trace_text.specs.declared.trace_call.TraceCall.{TraceCall}
 use Rattle.trace_text.specs.declared.trace_call.TraceCall.TheVariants.{Mkdir, Rmdir, Unlink, Rename, Symlink, Open, Data, Stat}
 use Rattle.trace_text.specs.declared.trace.BackendLine.{BackendLine}
 use Rattle.trace_text.specs.declared.trace.CallLine.{CallLine}
+use Rattle.trace_text.specs.declared.version.Version.TheVariants.{One}
 use Rattle.trace_text.specs.Traces.{Traced, backend_line, calls_of}
 use Rattle.trace_text.specs.Words.{only_access}
 use Rattle.run_engine.specs.declared.draws.Draws.{Draws}
@@ -102,7 +103,7 @@ generated_calls = 2000
 
 abbrev pub generated_trace : ℕ → Traced
 generated_trace seed = record {
-  version = 1;
+  version = One;
   threads = generated_threads;
   backends = generated_backends;
   calls = generated_lines seed generated_calls;

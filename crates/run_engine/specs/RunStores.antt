@@ -12,7 +12,7 @@ use Rattle.file_store.specs.declared.descriptor_operation.FdOp.{FdOp}
 use Rattle.file_store.specs.declared.descriptor_operation.FdAnswer.{FdAnswer}
 use Rattle.path_walk.specs.declared.step.StoreAnswer.TheVariants.{Names as NamesAnswer, Files as FilesAnswer, Descriptors as DescriptorsAnswer}
 use Rattle.path_walk.specs.Store.{Backend, Store, names_step, files_step, descriptors_step}
-use Rattle.memory_backend.specs.Among.{MountsAmong, SlotsAmong}
+use Rattle.memory_backend.specs.Among.{IsMapAmong, MountsAmong}
 use Rattle.trace_text.specs.declared.trace.BackendLine.{BackendLine}
 
 -- how many backends there are: the root's is always there
@@ -29,7 +29,8 @@ pub record IsRunStore (store : Store) : Type 0 where
   -- the root's backend is there
   pub root : 0 < length store.backends
   pub each : (number : ℕ) (backend : Backend) → slice_get store.backends number ≡ Some backend → IsBackend (length store.backends) backend
-  pub slots : SlotsAmong (length store.backends) store.descriptors
+  -- what the numbers name, and the current directory, is of a backend that is there
+  pub descriptors : IsMapAmong (length store.backends) store.descriptors
 
 -- a step of that kind led from one store to another, and answered so
 abbrev pub IsNamesStep : Store → ℕ → NameOp → Store → NameAnswer → Type 0

@@ -8,11 +8,12 @@ use crate::run_store::RunStore;
 use path_walk::{Reply, perform};
 use std::alloc::{AllocError, Global};
 use std::marker::Model;
-use trace_text::{CallLine, Trace, number_in_reply};
+use trace_text::{CallLine, Trace, Version, number_in_reply};
 
 /// A run of a trace between two of its calls.
 #[derive(Drop)]
 pub(crate) struct Run {
+    version: Version,
     store: RunStore,
     numbers: ReplyNumbers,
 }
@@ -22,7 +23,7 @@ impl Model for Run {
 
     ghost Value = { Between };
 
-    ghost view = { λ r. record { store = r.store; numbers = r.numbers } };
+    ghost view = { λ r. record { version = r.version; store = r.store; numbers = r.numbers } };
 }
 
 impl Run {
@@ -33,7 +34,11 @@ impl Run {
     {
         let store = RunStore::new(alloc, trace.backends.as_slice())?;
         let numbers = ReplyNumbers::new(alloc, trace.threads.as_slice())?;
-        Ok(Run { store, numbers })
+        Ok(Run {
+            version: trace.version,
+            store,
+            numbers,
+        })
     }
 
     /// Takes the call of a line, and gives its reply.
@@ -43,7 +48,7 @@ impl Run {
     {
         let CallLine { thread, call, .. } = line;
         let call = call.into_call(self.numbers.of(thread));
-        let reply = perform(alloc, call, &mut self.store)?;
+        let reply = perform(alloc, call, &mut self.store, self.version.number())?;
         self.numbers.push(thread, number_in_reply(&reply))?;
         Ok(reply)
     }

@@ -5,7 +5,7 @@ ghost use Rattle.run_engine.specs.Generated.{generated_backends, generated_threa
 use crate::draws::{Draws, Generator};
 use std::alloc::{AllocError, Global};
 use std::marker::Model;
-use trace_text::{BackendLine, CallLine, Trace};
+use trace_text::{BackendLine, CallLine, Trace, Version};
 use wf_core::Text;
 
 /// How many calls a generated trace has.
@@ -106,7 +106,7 @@ pub fn generated_trace(alloc: Global, seed: u64) -> Result<Trace, AllocError>
         lines.push(alloc, generator.draws())?;
     }
     Ok(Trace {
-        version: 1,
+        version: Version::One,
         threads: threads(alloc)?,
         backends: backends(alloc)?,
         calls: lines.into_lines(),

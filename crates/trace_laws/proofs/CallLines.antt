@@ -9,6 +9,7 @@ use Rattle.trace_text.specs.declared.trace_call.TraceCall.{TraceCall}
 use Rattle.trace_text.specs.declared.trace.BackendLine.{BackendLine}
 use Rattle.trace_text.specs.declared.trace.CallLine.{CallLine}
 use Rattle.trace_text.specs.declared.trace.Mode.{Mode}
+use Rattle.trace_text.specs.declared.version.Version.{Version}
 use Rattle.trace_text.specs.Traces.{Traced, calls_of, next_call, thread_name, thread_number}
 use Rattle.trace_text.specs.Fields.{fields_of, is_skipped, label_in}
 use Rattle.trace_text.specs.Grammar.{Says}
@@ -25,12 +26,12 @@ abbrev pub label : List ℕ → List ℕ
 label name = name ++ 58 ∷ []
 
 -- the fields behind a label make the call, and their line is one that can be read
-pub record Row (openings : List Bool) (name : List ℕ) (call : TraceCall) : Type 0 where
+pub record Row (version : Version) (openings : List Bool) (name : List ℕ) (call : TraceCall) : Type 0 where
   pub word : List ℕ
   pub form : Form
   pub fields : List (List ℕ)
   pub fields_are : call_fields call ≡ word ∷ fields
-  pub has_form : form_of word ≡ Some form
+  pub has_form : form_of version word ≡ Some form
   pub same : form openings fields ≡ Some call
   pub has_label : label_in (label name) ≡ Some name
   pub clean : Each Clean (label name ∷ word ∷ fields)
@@ -38,13 +39,13 @@ pub record Row (openings : List Bool) (name : List ℕ) (call : TraceCall) : Typ
   pub no_skip : is_skipped (join_with_byte 32 (label name ∷ word ∷ fields)) ≡ false
 
 -- what holds of a call of a trace with these threads, behind the calls before it
-pub record CallStands (threads : List (List ℕ)) (front : List CallLine) (line : CallLine) : Type 0 where
+pub record CallStands (version : Version) (threads : List (List ℕ)) (front : List CallLine) (line : CallLine) : Type 0 where
   pub name : List ℕ
   pub name_is : thread_name threads line.thread ≡ name
   pub has_thread : position (λ thread. is_text thread name) threads ≡ Some line.thread
   pub number : line.number ≡ calls_of line.thread front + 1
   pub room : length front < calls_max
-  pub row : Row (openings_of line.thread front) name line.call
+  pub row : Row version (openings_of line.thread front) name line.call
 
 -- A label is a name and a byte 58.
 
@@ -89,13 +90,13 @@ no_skip_by_label name texts others h = first_byte (label name) others (some_byte
     first_byte text texts some e = first_of text texts some ∙ e
 
 -- what the line was read to be
-row_of_line : (openings : List Bool) (line first name word : List ℕ) (fields : List (List ℕ)) (form : Form) (call : TraceCall) → Lacks 10 line → length line ≤ line_max → is_skipped line ≡ false
-    → fields_of line ≡ first ∷ word ∷ fields → label_in first ≡ Some name → form_of word ≡ Some form → form openings fields ≡ Some call → Row openings name call
-row_of_line openings line first name word fields form call lack short s f l w c =
+row_of_line : (version : Version) (openings : List Bool) (line first name word : List ℕ) (fields : List (List ℕ)) (form : Form) (call : TraceCall) → Lacks 10 line → length line ≤ line_max → is_skipped line ≡ false
+    → fields_of line ≡ first ∷ word ∷ fields → label_in first ≡ Some name → form_of version word ≡ Some form → form openings fields ≡ Some call → Row version openings name call
+row_of_line version openings line first name word fields form call lack short s f l w c =
     let labels = label_is first name l in
     let cut : fields_of line ≡ label name ∷ word ∷ fields = f ∙ ap (λ (text : List ℕ). text ∷ word ∷ fields) labels in
     let clean = subst (λ (texts : List (List ℕ)). Each Clean texts) cut (fields_clean line lack) in
-    let again = row_again word form w openings fields call clean.1.1 c in
+    let again = row_again version word form w openings fields call clean.1.1 c in
     let row = row_of_fields line (label name ∷ word ∷ fields) cut in
     record {
       word = word;
@@ -124,8 +125,8 @@ name_by threads name thread e = name_at threads thread ∙ is_word (get_or threa
 
 -- the new call stands behind those before it
 pub call_stands : (before : Traced) (line first name word : List ℕ) (fields : List (List ℕ)) (thread : ℕ) (form : Form) (call : TraceCall) → Lacks 10 line → length line ≤ line_max → is_skipped line ≡ false
-    → fields_of line ≡ first ∷ word ∷ fields → label_in first ≡ Some name → thread_number before name ≡ Some thread → form_of word ≡ Some form → form (openings_of thread before.calls) fields ≡ Some call
-    → length before.calls < calls_max → CallStands before.threads before.calls (next_call before thread call)
+    → fields_of line ≡ first ∷ word ∷ fields → label_in first ≡ Some name → thread_number before name ≡ Some thread → form_of before.version word ≡ Some form → form (openings_of thread before.calls) fields ≡ Some call
+    → length before.calls < calls_max → CallStands before.version before.threads before.calls (next_call before thread call)
 call_stands before line first name word fields thread form call lack short s f l t w c room =
     record {
       name = name;
@@ -133,19 +134,19 @@ call_stands before line first name word fields thread form call lack short s f l
       has_thread = t;
       number = refl;
       room = room;
-      row = row_of_line (openings_of thread before.calls) line first name word fields form call lack short s f l w c;
+      row = row_of_line before.version (openings_of thread before.calls) line first name word fields form call lack short s f l w c;
     }
 
 -- and stands with one thread more
-pub stands_with_thread : (threads : List (List ℕ)) (thread : List ℕ) (front : List CallLine) (line : CallLine) → CallStands threads front line → CallStands (threads ++ thread ∷ []) front line
-stands_with_thread threads thread front line stands =
+pub stands_with_thread : (version : Version) (threads : List (List ℕ)) (thread : List ℕ) (front : List CallLine) (line : CallLine) → CallStands version threads front line → CallStands version (threads ++ thread ∷ []) front line
+stands_with_thread version threads thread front line stands =
     let has_thread = found_before (λ other. is_text other stands.name) threads thread line.thread stands.has_thread in
     record { name = stands.name; name_is = name_by (threads ++ thread ∷ []) stands.name line.thread has_thread; has_thread = has_thread; number = stands.number; room = stands.room; row = stands.row }
 
 -- The printed line.
 
-line_is : (threads : List (List ℕ)) (front : List CallLine) (line : CallLine) (stands : CallStands threads front line) → call_line threads line ≡ join_with_byte 32 (label stands.name ∷ stands.row.word ∷ stands.row.fields)
-line_is threads front line stands =
+line_is : (version : Version) (threads : List (List ℕ)) (front : List CallLine) (line : CallLine) (stands : CallStands version threads front line) → call_line threads line ≡ join_with_byte 32 (label stands.name ∷ stands.row.word ∷ stands.row.fields)
+line_is version threads front line stands =
     ap (λ (name : List ℕ). (name ++ codes ": ") ++ join_with_byte 32 (call_fields line.call)) stands.name_is
     ∙ ap (λ (fields : List (List ℕ)). (stands.name ++ codes ": ") ++ join_with_byte 32 fields) stands.row.fields_are
     ∙ append_assoc stands.name (codes ": ") (join_with_byte 32 (stands.row.word ∷ stands.row.fields))
@@ -155,18 +156,18 @@ each_lacks : (texts : List (List ℕ)) → Each Clean texts → Each (Lacks 32) 
 each_lacks [] clean = (tt, tt)
 each_lacks (text ∷ texts) clean = let rest = each_lacks texts clean.1 in ((clean.0.0, rest.0), (clean.0.1, rest.1))
 
-abbrev pub with_calls : List (List ℕ) → List BackendLine → List CallLine → Traced
-with_calls threads backends calls = record { version = 1; threads = threads; backends = backends; calls = calls }
+abbrev pub with_calls : Version → List (List ℕ) → List BackendLine → List CallLine → Traced
+with_calls version threads backends calls = record { version = version; threads = threads; backends = backends; calls = calls }
 
 same_number : (line : CallLine) (number : ℕ) → line.number ≡ number → line ≡ record { thread = line.thread; number = number; call = line.call }
 same_number line number e = ap (λ (n : ℕ). record { thread = line.thread; number = n; call = line.call }) e
 
-pub call_line_says : (mode : Mode) (threads : List (List ℕ)) (backends : List BackendLine) (front : List CallLine) (line : CallLine) → CallStands threads front line
-    → Says mode (with_calls threads backends front) (call_line threads line) (with_calls threads backends (front ++ line ∷ [])) × Lacks 10 (call_line threads line)
-call_line_says mode threads backends front line stands =
+pub call_line_says : (mode : Mode) (version : Version) (threads : List (List ℕ)) (backends : List BackendLine) (front : List CallLine) (line : CallLine) → CallStands version threads front line
+    → Says mode (with_calls version threads backends front) (call_line threads line) (with_calls version threads backends (front ++ line ∷ [])) × Lacks 10 (call_line threads line)
+call_line_says mode version threads backends front line stands =
     let row = stands.row in
     let lacks = each_lacks (label stands.name ∷ row.word ∷ row.fields) row.clean in
-    subst (λ (text : List ℕ). Says mode (with_calls threads backends front) text (with_calls threads backends (front ++ line ∷ [])) × Lacks 10 text) (sym (line_is threads front line stands)) (
+    subst (λ (text : List ℕ). Says mode (with_calls version threads backends front) text (with_calls version threads backends (front ++ line ∷ [])) × Lacks 10 text) (sym (line_is version threads front line stands)) (
       (
         row.short,
         inr (
@@ -185,7 +186,7 @@ call_line_says mode threads backends front line stands =
             line.call,
             row.same,
             stands.room,
-            ap (λ (last : CallLine). with_calls threads backends (front ++ last ∷ [])) (same_number line (calls_of line.thread front + 1) stands.number),
+            ap (λ (last : CallLine). with_calls version threads backends (front ++ last ∷ [])) (same_number line (calls_of line.thread front + 1) stands.number),
           )),
         ),
       ),

@@ -9,6 +9,7 @@ use Rattle.wf_core.specs.Limits.{line_max, threads_max, backends_max}
 use Rattle.wf_core.specs.Names.{is_text}
 use Rattle.trace_text.specs.declared.trace.BackendLine.{BackendLine}
 use Rattle.trace_text.specs.declared.trace.Mode.{Mode}
+use Rattle.trace_text.specs.declared.version.Version.{Version}
 use Rattle.trace_text.specs.Traces.{Traced, is_declared}
 use Rattle.trace_text.specs.Fields.{fields_of, is_label, is_label_byte, label_max}
 use Rattle.trace_text.specs.Grammar.{Says, kind_word}
@@ -88,9 +89,9 @@ word_lacks word h = (clean_from_high word (at_least 33 word h)).1
 thread_fields : (name : List ℕ) → Lacks 32 name → fields_of (thread_line name) ≡ codes "thread" ∷ name ∷ []
 thread_fields name lack = ap (λ (pieces : List (List ℕ)). codes "thread" ∷ pieces) (slice_split_none (λ (byte : ℕ). byte == 32) name lack)
 
-pub thread_line_says : (mode : Mode) (front : List (List ℕ)) (name : List ℕ) → ThreadStands front name
-    → Says mode (with_calls front [] []) (thread_line name) (with_calls (front ++ name ∷ []) [] []) × Lacks 10 (thread_line name)
-thread_line_says mode front name stands =
+pub thread_line_says : (mode : Mode) (version : Version) (front : List (List ℕ)) (name : List ℕ) → ThreadStands front name
+    → Says mode (with_calls version front [] []) (thread_line name) (with_calls version (front ++ name ∷ []) [] []) × Lacks 10 (thread_line name)
+thread_line_says mode version front name stands =
     let clean = name_clean name stands.label in
     let small = name_short name stands.label in
     let cut = thread_fields name clean.0 in
@@ -122,9 +123,9 @@ backend_short backend small =
     let kind = kind_short backend.proxied in
     omega (arith, length-append (codes "backend " ++ backend.name ++ codes " ") (kind_word backend.proxied), length-append (codes "backend " ++ backend.name) (codes " "), length-append (codes "backend ") backend.name)
 
-pub backend_line_says : (mode : Mode) (threads : List (List ℕ)) (front : List BackendLine) (backend : BackendLine) → BackendStands mode threads front backend
-    → Says mode (with_calls threads front []) (backend_text backend) (with_calls threads (front ++ backend ∷ []) []) × Lacks 10 (backend_text backend)
-backend_line_says mode threads front backend stands =
+pub backend_line_says : (mode : Mode) (version : Version) (threads : List (List ℕ)) (front : List BackendLine) (backend : BackendLine) → BackendStands mode threads front backend
+    → Says mode (with_calls version threads front []) (backend_text backend) (with_calls version threads (front ++ backend ∷ []) []) × Lacks 10 (backend_text backend)
+backend_line_says mode version threads front backend stands =
     let clean = name_clean backend.name stands.label in
     let cut = backend_fields backend clean.0 in (
       (

@@ -13,11 +13,13 @@ use Rattle.file_store.specs.declared.file_operation.Whence.{Whence}
 use Rattle.file_store.specs.declared.file_operation.Whence.TheVariants as whence
 use Rattle.trace_text.specs.declared.trace_call.Descriptor.{Descriptor}
 use Rattle.trace_text.specs.declared.trace_call.Descriptor.TheVariants.{Number, ReplyOf}
+use Rattle.trace_text.specs.declared.trace_call.TraceBase.{TraceBase}
+use Rattle.trace_text.specs.declared.trace_call.TraceBase.TheVariants.{Cwd, Fd}
 use Rattle.trace_text.specs.Openings.{is_opening_at}
 use Rattle.trace_text.specs.Fields.{is_plain, byte_field, text_field, text_in, path_in, unless_nul, hex_digit, number_in, number_max, count_in, offset_in}
 use Rattle.trace_text.specs.Spelling.{IsHex, SpellsByte, SpellsBytes, SpellsText}
-use Rattle.trace_text.specs.TraceTexts.{descriptor_field, whence_field, access_field}
-use Rattle.trace_text.specs.Words.{descriptor_in, reply_of, whence_in, access_in}
+use Rattle.trace_text.specs.TraceTexts.{base_field, descriptor_field, whence_field, access_field}
+use Rattle.trace_text.specs.Words.{base_in, descriptor_in, reply_of, whence_in, access_in}
 use Rattle.trace_text.proofs.SpellingLemmas.{text_spelled, printed_is_read}
 use Rattle.trace_laws.proofs.Pieces.{Clean}
 use Rattle.trace_laws.proofs.Numerals.{some_is, number_again, signed_again}
@@ -83,6 +85,23 @@ descriptor_exact openings (byte ∷ field) descriptor e =
 
 pub descriptor_prints : (openings : List Bool) → Prints (descriptor_in openings) descriptor_field
 descriptor_prints openings = prints_exactly (descriptor_in openings) descriptor_field (descriptor_exact openings)
+
+descriptor_base : (read : Option Descriptor) (base : TraceBase) → option_map Fd read ≡ Some base → (descriptor : Descriptor) × (read ≡ Some descriptor) × (base ≡ Fd descriptor)
+descriptor_base None base e = (let clash : None ≡ Some base = e in cc clash)
+descriptor_base (Some descriptor) base e = (descriptor, refl, sym (some_is (Fd descriptor) base e))
+
+base_exact : (openings : List Bool) (field : List ℕ) (base : TraceBase) → base_in openings field ≡ Some base → base_field base ≡ field
+base_exact openings field base e =
+    elim (is_text field (codes "cwd")) as (λ b. (is_text field (codes "cwd") ≡ b) → (if b then Some Cwd else option_map Fd (descriptor_in openings field)) ≡ Some base → base_field base ≡ field) [
+      | true ↦ λ t h. ap base_field (sym (some_is Cwd base h)) ∙ sym (is_word field (codes "cwd") t)
+      | false ↦ λ t h. (
+          let made = descriptor_base (descriptor_in openings field) base h in
+          ap base_field made.2 ∙ descriptor_exact openings field made.0 made.1
+          )
+    ] refl e
+
+pub base_prints : (openings : List Bool) → Prints (base_in openings) base_field
+base_prints openings = prints_exactly (base_in openings) base_field (base_exact openings)
 
 -- a word for a value
 word_exact : {A : Type 0} (print : A → List ℕ) (field word : List ℕ) (value x : A) → is_text field word ≡ true → Some value ≡ Some x → print value ≡ word → print x ≡ field

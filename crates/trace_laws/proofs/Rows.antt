@@ -3,14 +3,18 @@ use Rattle.std.proofs.Common.{◌≡◌, ℕ, Bool, List, [], ◌∷◌, codes, 
 use Rattle.std.specs.Fmt.{decimal, signed_decimal}
 use Rattle.trace_text.specs.declared.trace_call.TraceCall.{TraceCall}
 use Rattle.trace_text.specs.declared.trace_call.TraceCall.TheVariants as call
+use Rattle.trace_text.specs.declared.trace_call.AtCall.{AtCall}
+use Rattle.trace_text.specs.declared.trace_call.AtCall.TheVariants as at
+use Rattle.trace_text.specs.declared.trace_call.TraceBase.{TraceBase}
 use Rattle.path_walk.specs.declared.descriptor_call.DataCall.TheVariants as on_file
+use Rattle.trace_text.specs.declared.version.Version.{Version}
 use Rattle.trace_text.specs.Fields.{text_in, path_in, text_field, count_in, offset_in}
-use Rattle.trace_text.specs.Words.{Form, one, two, three, pair, flags_in, descriptor_in, whence_in, form_of}
-use Rattle.trace_text.specs.TraceTexts.{call_fields, descriptor_field, whence_field, flags_field}
+use Rattle.trace_text.specs.Words.{Form, one, two, three, four, pair, base_path, base_in, flags_in, descriptor_in, whence_in, form_of}
+use Rattle.trace_text.specs.TraceTexts.{call_fields, base_field, descriptor_field, whence_field, flags_field}
 use Rattle.trace_text.proofs.Rows.{of_row, made_of}
 use Rattle.trace_laws.proofs.Pieces.{Each, Clean, Shorter}
 use Rattle.trace_laws.proofs.Numerals.{some_is}
-use Rattle.trace_laws.proofs.PrintedFields.{Prints, text_prints, path_prints, count_prints, offset_prints, descriptor_prints, whence_prints}
+use Rattle.trace_laws.proofs.PrintedFields.{Prints, text_prints, path_prints, count_prints, offset_prints, base_prints, descriptor_prints, whence_prints}
 use Rattle.trace_laws.proofs.Flags.{flags_prints}
 
 -- the call is printed by that word, and by fields that are read as it
@@ -85,12 +89,42 @@ module _ (word : List ℕ) where
       })
   three_again first second third print print_second print_third make p q r fields_are (a ∷ b ∷ c ∷ d ∷ fields) call clean e = (let clash : None ≡ Some call = e in cc clash)
 
+  four_again : {A B C D : Type 0} (first : List ℕ → Option A) (second : List ℕ → Option B) (third : List ℕ → Option C) (fourth : List ℕ → Option D) (print : A → List ℕ) (print_second : B → List ℕ) (print_third : C → List ℕ) (print_fourth : D → List ℕ) (make : A × (B × (C × D)) → TraceCall)
+      → Prints first print → Prints second print_second → Prints third print_third → Prints fourth print_fourth
+      → ((z : A × (B × (C × D))) → call_fields (make z) ≡ word ∷ print z.0 ∷ print_second z.1.0 ∷ print_third z.1.1.0 ∷ print_fourth z.1.1.1 ∷ [])
+      → (fields : List (List ℕ)) (call : TraceCall) → Each Clean fields → option_map make (four first second third fourth fields) ≡ Some call → KeepsCall word (λ fs. option_map make (four first second third fourth fs)) fields call
+  four_again first second third fourth print print_second print_third print_fourth make p q r s fields_are [] call clean e = (let clash : None ≡ Some call = e in cc clash)
+  four_again first second third fourth print print_second print_third print_fourth make p q r s fields_are (a ∷ []) call clean e = (let clash : None ≡ Some call = e in cc clash)
+  four_again first second third fourth print print_second print_third print_fourth make p q r s fields_are (a ∷ b ∷ []) call clean e = (let clash : None ≡ Some call = e in cc clash)
+  four_again first second third fourth print print_second print_third print_fourth make p q r s fields_are (a ∷ b ∷ c ∷ []) call clean e = (let clash : None ≡ Some call = e in cc clash)
+  four_again first second third fourth print print_second print_third print_fourth make p q r s fields_are (a ∷ b ∷ c ∷ d ∷ []) call clean e =
+      let made = made_of make (pair (first a) (pair (second b) (pair (third c) (fourth d)))) call e in
+      let parts = pair_parts (first a) (pair (second b) (pair (third c) (fourth d))) made.0 made.1 in
+      let others = pair_parts (second b) (pair (third c) (fourth d)) made.0.1 parts.1 in
+      let lasts = pair_parts (third c) (fourth d) made.0.1.1 others.1 in
+      let one_part = p a made.0.0 clean.0 parts.0 in
+      let other_part = q b made.0.1.0 clean.1.0 others.0 in
+      let next_part = r c made.0.1.1.0 clean.1.1.0 lasts.0 in
+      let last_part = s d made.0.1.1.1 clean.1.1.1.0 lasts.1 in
+      subst (λ (c' : TraceCall). KeepsCall word (λ fs. option_map make (four first second third fourth fs)) (a ∷ b ∷ c ∷ d ∷ []) c') made.2
+      (record {
+        texts = print made.0.0 ∷ print_second made.0.1.0 ∷ print_third made.0.1.1.0 ∷ print_fourth made.0.1.1.1 ∷ [];
+        fields_are = fields_are made.0;
+        same = ap₂ (λ x y. option_map make (pair x y)) one_part.same (ap₂ pair other_part.same (ap₂ pair next_part.same last_part.same));
+        short = (one_part.short, (other_part.short, (next_part.short, (last_part.short, tt))));
+        clean = (one_part.clean, (other_part.clean, (next_part.clean, (last_part.clean, tt))));
+      })
+  four_again first second third fourth print print_second print_third print_fourth make p q r s fields_are (a ∷ b ∷ c ∷ d ∷ x ∷ fields) call clean e = (let clash : None ≡ Some call = e in cc clash)
+
 path_again : (word : List ℕ) (make : List ℕ → TraceCall) → ((path : List ℕ) → call_fields (make path) ≡ word ∷ text_field path ∷ []) → PrintsRow word (λ openings fields. option_map make (one path_in fields))
 path_again word make fields_are openings = one_again word path_in text_field make path_prints fields_are
 
-pub row_again : (word : List ℕ) (form : Form) → form_of word ≡ Some form → PrintsRow word form
-row_again word form e =
-    of_row PrintsRow word form (
+base_again : (word : List ℕ) (make : TraceBase → List ℕ → AtCall) → ((base : TraceBase) (path : List ℕ) → call_fields (call.At (make base path)) ≡ word ∷ base_field base ∷ text_field path ∷ []) → PrintsRow word (base_path make)
+base_again word make fields_are openings = two_again word (base_in openings) path_in base_field text_field (λ x. call.At (make x.0 x.1)) (base_prints openings) path_prints (λ z. fields_are z.0 z.1)
+
+pub row_again : (version : Version) (word : List ℕ) (form : Form) → form_of version word ≡ Some form → PrintsRow word form
+row_again version word form e =
+    of_row PrintsRow version word form (
       path_again (codes "mkdir") call.Mkdir (λ x. refl),
       (
         path_again (codes "rmdir") call.Rmdir (λ x. refl),
@@ -130,6 +164,21 @@ row_again word form e =
             (λ o. three_again (codes "pwrite") (descriptor_in o) text_in offset_in descriptor_field text_field signed_decimal (λ x. call.Data x.0 (on_file.Pwrite x.1.0 x.1.1)) (descriptor_prints o) text_prints offset_prints (λ z. refl)),
             ((λ o. three_again (codes "seek") (descriptor_in o) offset_in whence_in descriptor_field signed_decimal whence_field (λ x. call.Data x.0 (on_file.Seek x.1.0 x.1.1)) (descriptor_prints o) offset_prints whence_prints (λ z. refl)), tt),
           ),
+        ),
+      ),
+    ) (
+      base_again (codes "mkdirat") at.Mkdirat (λ base path. refl),
+      (
+        base_again (codes "rmdirat") at.Rmdirat (λ base path. refl),
+        (base_again (codes "unlinkat") at.Unlinkat (λ base path. refl), (base_again (codes "fstatat") at.Fstatat (λ base path. refl), tt)),
+      ),
+    ) (
+      path_again (codes "chdir") call.Chdir (λ x. refl),
+      (
+        (λ o. one_again (codes "fchdir") (descriptor_in o) descriptor_field call.Fchdir (descriptor_prints o) (λ x. refl)),
+        (
+          (λ o. three_again (codes "openat") (base_in o) path_in flags_in base_field text_field flags_field (λ x. call.At (at.Openat x.0 x.1.0 x.1.1)) (base_prints o) path_prints flags_prints (λ z. refl)),
+          ((λ o. four_again (codes "renameat") (base_in o) path_in (base_in o) path_in base_field text_field base_field text_field (λ x. call.At (at.Renameat x.0 x.1.0 x.1.1.0 x.1.1.1)) (base_prints o) path_prints (base_prints o) path_prints (λ z. refl)), tt),
         ),
       ),
     ) e

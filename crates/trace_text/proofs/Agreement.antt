@@ -16,7 +16,7 @@ use Rattle.trace_text.specs.Faults.{Declarations, has_name, backend_name, call_b
 
 -- what a trace has declared
 abbrev pub declarations_of : Traced → Declarations
-declarations_of trace = record { threads = trace.threads; backends = map (λ backend. backend.name) trace.backends; calls = length trace.calls }
+declarations_of trace = record { version = trace.version; threads = trace.threads; backends = map (λ backend. backend.name) trace.backends; calls = length trace.calls }
 
 -- a line is read and no condition holds, or it has the fault of the first that does
 abbrev pub Agrees : Result Traced Fault → Option Fault → (Traced → Type 0) → Type 0
@@ -75,15 +75,15 @@ form_agrees trace openings thread (Some form) fields Then h = room_agrees trace 
 
 -- the opening calls are told of the lines before, and of the trace
 pub call_agrees : (trace : Traced) (openings : List Bool) (thread : Option ℕ) (fields : List (List ℕ)) (Then : Traced → Type 0) → ((number : ℕ) → thread ≡ Some number → openings ≡ openings_of number trace.calls)
-    → ((number : ℕ) (word : List ℕ) (rest : List (List ℕ)) (form : Form) (made : TraceCall) → thread ≡ Some number → fields ≡ word ∷ rest → form_of word ≡ Some form
+    → ((number : ℕ) (word : List ℕ) (rest : List (List ℕ)) (form : Form) (made : TraceCall) → thread ≡ Some number → fields ≡ word ∷ rest → form_of trace.version word ≡ Some form
     → form (openings_of number trace.calls) rest ≡ Some made → nat_le calls_max (length trace.calls) ≡ false → Then (with_call trace number made))
     → Agrees (after_call trace thread fields)
-    (if is_none thread then Some UnknownName else if is_none (form_behind fields) then Some UnknownWord else if is_none (call_behind_label openings fields) then Some BadArgument
+    (if is_none thread then Some UnknownName else if is_none (form_behind trace.version fields) then Some UnknownWord else if is_none (call_behind_label trace.version openings fields) then Some BadArgument
     else if nat_le calls_max (length trace.calls) then Some TooManyCalls else None) Then
 call_agrees trace openings None fields Then same h = refl
 call_agrees trace openings (Some thread) [] Then same h = refl
 call_agrees trace openings (Some thread) (word ∷ fields) Then same h =
     subst (λ (o : List Bool). Agrees (after_call trace (Some thread) (word ∷ fields))
-    (if is_none (form_of word) then Some UnknownWord else if is_none (call_with_form o (form_of word) fields) then Some BadArgument else if nat_le calls_max (length trace.calls) then Some TooManyCalls else None) Then)
+    (if is_none (form_of trace.version word) then Some UnknownWord else if is_none (call_with_form o (form_of trace.version word) fields) then Some BadArgument else if nat_le calls_max (length trace.calls) then Some TooManyCalls else None) Then)
     (sym (same thread refl))
-    (form_agrees trace (openings_of thread trace.calls) thread (form_of word) fields Then (λ form made e f room. h thread word fields form made refl refl e f room))
+    (form_agrees trace (openings_of thread trace.calls) thread (form_of trace.version word) fields Then (λ form made e f room. h thread word fields form made refl refl e f room))

@@ -7,6 +7,7 @@ use Rattle.std.proofs.lemmas.Slice.Eq.{bytes_eq-Decides}
 use Rattle.wf_core.specs.Names.{is_text}
 use Rattle.trace_text.specs.declared.trace_call.TraceCall.{TraceCall}
 use Rattle.trace_text.specs.declared.trace.CallLine.{CallLine}
+use Rattle.trace_text.specs.declared.version.Version.{Version}
 use Rattle.trace_text.specs.Traces.{Traced, thread_number, with_thread, with_call, next_call}
 use Rattle.trace_text.specs.Openings.{is_opening, is_opening_word, opening_of, openings_of}
 use Rattle.trace_text.specs.Fields.{label_in}
@@ -16,8 +17,8 @@ use Rattle.trace_text.proofs.Growth.{one_more}
 use Rattle.trace_text.proofs.Positions.{found_before, found_last, nowhere_before}
 
 -- the trace is what the lines before say, as far as the conditions of the next line ask
-pub record Follows (before : List (List ℕ)) (trace : Traced) : Type 0 where
-  pub declared : declarations before ≡ declarations_of trace
+pub record Follows (version : Version) (before : List (List ℕ)) (trace : Traced) : Type 0 where
+  pub declared : declarations version before ≡ declarations_of trace
   pub found : (name : List ℕ) (thread : ℕ) → thread_number trace name ≡ Some thread → openings_by before name ≡ openings_of thread trace.calls
   pub unfound : (name : List ℕ) → thread_number trace name ≡ None → openings_by before name ≡ []
   pub past : (thread : ℕ) → length trace.threads ≤ thread → openings_of thread trace.calls ≡ []
@@ -29,9 +30,9 @@ by_same : (before : List (List ℕ)) (line name : List ℕ) → opening_in name 
 by_same before line name e = by_more before line name None e ∙ append-nil (openings_by before name)
 
 -- a line that is no call, and declares no thread
-pub follows_same : (before : List (List ℕ)) (line : List ℕ) (trace after : Traced) → Follows before trace → ((name : List ℕ) → opening_in name (statement_of line) ≡ None)
-    → after.threads ≡ trace.threads → after.calls ≡ trace.calls → declarations (before ++ line ∷ []) ≡ declarations_of after → Follows (before ++ line ∷ []) after
-follows_same before line trace after f none threads calls e =
+pub follows_same : (version : Version) (before : List (List ℕ)) (line : List ℕ) (trace after : Traced) → Follows version before trace → ((name : List ℕ) → opening_in name (statement_of line) ≡ None)
+    → after.threads ≡ trace.threads → after.calls ≡ trace.calls → declarations version (before ++ line ∷ []) ≡ declarations_of after → Follows version (before ++ line ∷ []) after
+follows_same version before line trace after f none threads calls e =
     let same : (name : List ℕ) → thread_number trace name ≡ thread_number after name = λ name. ap (λ (names : List (List ℕ)). position (λ thread. is_text thread name) names) (sym threads) in
     record {
       declared = e;
@@ -40,20 +41,20 @@ follows_same before line trace after f none threads calls e =
       past = λ thread h. ap (openings_of thread) calls ∙ f.past thread (subst (λ (names : List (List ℕ)). length names ≤ thread) threads h);
     }
 
-found_or_new : (before : List (List ℕ)) (trace : Traced) (new name : List ℕ) (thread : ℕ) (at : Option ℕ) → Follows before trace → thread_number trace name ≡ at → thread_number (with_thread trace new) name ≡ Some thread
+found_or_new : (version : Version) (before : List (List ℕ)) (trace : Traced) (new name : List ℕ) (thread : ℕ) (at : Option ℕ) → Follows version before trace → thread_number trace name ≡ at → thread_number (with_thread trace new) name ≡ Some thread
     → openings_by before name ≡ openings_of thread trace.calls
-found_or_new before trace new name thread None f none h =
+found_or_new version before trace new name thread None f none h =
     let last : thread ≡ length trace.threads = found_last (λ (t : List ℕ). is_text t name) trace.threads new thread none h in
     f.unfound name none ∙ sym (f.past thread (omega arith))
-found_or_new before trace new name thread (Some at) f some h =
+found_or_new version before trace new name thread (Some at) f some h =
     let again : Some at ≡ Some thread = sym (found_before (λ (t : List ℕ). is_text t name) trace.threads new at some) ∙ h in
     f.found name thread (some ∙ again)
 
-pub follows_thread : (before : List (List ℕ)) (line new : List ℕ) (trace : Traced) → Follows before trace → ((name : List ℕ) → opening_in name (statement_of line) ≡ None)
-    → declarations (before ++ line ∷ []) ≡ declarations_of (with_thread trace new) → Follows (before ++ line ∷ []) (with_thread trace new)
-follows_thread before line new trace f none e = record {
+pub follows_thread : (version : Version) (before : List (List ℕ)) (line new : List ℕ) (trace : Traced) → Follows version before trace → ((name : List ℕ) → opening_in name (statement_of line) ≡ None)
+    → declarations version (before ++ line ∷ []) ≡ declarations_of (with_thread trace new) → Follows version (before ++ line ∷ []) (with_thread trace new)
+follows_thread version before line new trace f none e = record {
   declared = e;
-  found = λ name thread h. by_same before line name (none name) ∙ found_or_new before trace new name thread (thread_number trace name) f refl h;
+  found = λ name thread h. by_same before line name (none name) ∙ found_or_new version before trace new name thread (thread_number trace name) f refl h;
   unfound = λ name h. by_same before line name (none name) ∙ f.unfound name (nowhere_before (λ (t : List ℕ). is_text t name) trace.threads new h);
   past = λ thread h. f.past thread (omega (arith, h, length-append trace.threads (new ∷ [])));
 }
@@ -107,10 +108,10 @@ not_name trace name other thread e h =
 not_thread : (thread past : ℕ) → thread + 1 ≤ past → (thread == past) ≡ false
 not_thread thread past h = grind (arith, nat_tests)
 
-pub follows_call : (before : List (List ℕ)) (line label name word : List ℕ) (fields : List (List ℕ)) (trace : Traced) (thread : ℕ) (call : TraceCall) → Follows before trace
+pub follows_call : (version : Version) (before : List (List ℕ)) (line label name word : List ℕ) (fields : List (List ℕ)) (trace : Traced) (thread : ℕ) (call : TraceCall) → Follows version before trace
     → statement_of line ≡ label ∷ word ∷ fields → label_in label ≡ Some name → thread_number trace name ≡ Some thread → is_opening_word word ≡ is_opening call
-    → declarations (before ++ line ∷ []) ≡ declarations_of (with_call trace thread call) → Follows (before ++ line ∷ []) (with_call trace thread call)
-follows_call before line label name word fields trace thread call f s l t opening e =
+    → declarations version (before ++ line ∷ []) ≡ declarations_of (with_call trace thread call) → Follows version (before ++ line ∷ []) (with_call trace thread call)
+follows_call version before line label name word fields trace thread call f s l t opening e =
     let told : (other : List ℕ) → opening_in other (statement_of line) ≡ (if is_text name other then Some (is_opening_word word) else None) =
     λ other. ap (opening_in other) s ∙ ap (λ (found : Option (List ℕ)). opening_behind other found word) l in
     let made : CallLine = next_call trace thread call in

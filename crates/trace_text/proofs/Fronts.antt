@@ -6,10 +6,12 @@ use Rattle.std.proofs.lemmas.List.Splits.{slice_split_at, slice_split_none}
 use Rattle.trace_text.specs.declared.refusal.Fault.{Fault}
 use Rattle.trace_text.specs.declared.refusal.Refusal.{Refusal}
 use Rattle.trace_text.specs.declared.trace.Mode.{Mode}
+use Rattle.trace_text.specs.declared.version.Version.{Version}
+use Rattle.trace_text.specs.Versions.{version_in}
 use Rattle.trace_text.specs.Fields.{pieces_of}
 use Rattle.trace_text.specs.Reading.{trace_at}
 use Rattle.trace_text.specs.Refusals.{refusal_at}
-use Rattle.trace_text.specs.Faults.{Line, line_of, lines_from, lines_of, first_fault_of, line_conditions, header_conditions, first_of, fault_behind, fault_in, first_fault}
+use Rattle.trace_text.specs.Faults.{Line, line_of, lines_from, lines_of, first_fault_of, line_conditions, header_conditions, first_of, fault_behind, fault_behind_header, fault_in, first_fault}
 use Rattle.trace_text.specs.Laws.{IsRead, line_bytes, text_of, front_of}
 use Rattle.trace_text.proofs.Cuts.{first_piece}
 use Rattle.trace_text.proofs.Whole.{read_or_refused}
@@ -92,28 +94,28 @@ front_lines count bytes = lines_again (take count (lines_of bytes)) (take_lines 
 
 -- The first faulty line is the last of a front.
 
-abbrev pub Fronts : Mode → ℕ → List (List ℕ) → List Line → Refusal → Type 0
-Fronts mode number before lines refusal =
-    (k : ℕ) × (refusal.line ≡ number + k) × (fault_behind mode number before (take k lines) ≡ None) × (fault_behind mode number before (take (suc k) lines) ≡ Some refusal)
+abbrev pub Fronts : Mode → Version → ℕ → List (List ℕ) → List Line → Refusal → Type 0
+Fronts mode version number before lines refusal =
+    (k : ℕ) × (refusal.line ≡ number + k) × (fault_behind mode version number before (take k lines) ≡ None) × (fault_behind mode version number before (take (suc k) lines) ≡ Some refusal)
 
 some_is : {A : Type 0} (x y : A) → Some x ≡ Some y → x ≡ y
 some_is x y e = (cc)
 
-here : (mode : Mode) (number : ℕ) (before : List (List ℕ)) (line : Line) (lines : List Line) (refusal : Refusal) (met : Option Fault) → first_fault_of (line_conditions mode before line) ≡ met
-    → first_of number met (fault_behind mode (number + 1) (before ++ line.text ∷ []) lines) ≡ Some refusal
-    → (fault_behind mode (number + 1) (before ++ line.text ∷ []) lines ≡ Some refusal → Fronts mode (number + 1) (before ++ line.text ∷ []) lines refusal)
-    → Fronts mode number before (line ∷ lines) refusal
-here mode number before line lines refusal None m e more =
+here : (mode : Mode) (version : Version) (number : ℕ) (before : List (List ℕ)) (line : Line) (lines : List Line) (refusal : Refusal) (met : Option Fault) → first_fault_of (line_conditions mode version before line) ≡ met
+    → first_of number met (fault_behind mode version (number + 1) (before ++ line.text ∷ []) lines) ≡ Some refusal
+    → (fault_behind mode version (number + 1) (before ++ line.text ∷ []) lines ≡ Some refusal → Fronts mode version (number + 1) (before ++ line.text ∷ []) lines refusal)
+    → Fronts mode version number before (line ∷ lines) refusal
+here mode version number before line lines refusal None m e more =
     let rest = more e in (
       suc rest.0,
       rest.1 ∙ next_number number rest.0,
-      ap (λ (met : Option Fault). first_of number met (fault_behind mode (number + 1) (before ++ line.text ∷ []) (take rest.0 lines))) m ∙ rest.2,
-      ap (λ (met : Option Fault). first_of number met (fault_behind mode (number + 1) (before ++ line.text ∷ []) (take (suc rest.0) lines))) m ∙ rest.3,
+      ap (λ (met : Option Fault). first_of number met (fault_behind mode version (number + 1) (before ++ line.text ∷ []) (take rest.0 lines))) m ∙ rest.2,
+      ap (λ (met : Option Fault). first_of number met (fault_behind mode version (number + 1) (before ++ line.text ∷ []) (take (suc rest.0) lines))) m ∙ rest.3,
     )
   where
     next_number : (n k : ℕ) → (n + 1) + k ≡ n + suc k
     next_number n k = omega arith
-here mode number before line lines refusal (Some fault) m e more = (
+here mode version number before line lines refusal (Some fault) m e more = (
   0,
   sym (ap (λ (r : Refusal). r.line) (some_is (refusal_at number fault) refusal e)) ∙ none_more number,
   refl,
@@ -123,22 +125,24 @@ here mode number before line lines refusal (Some fault) m e more = (
     none_more : (n : ℕ) → n ≡ n + 0
     none_more n = omega arith
 
-fronts : (mode : Mode) (number : ℕ) (before : List (List ℕ)) (lines : List Line) (refusal : Refusal) → fault_behind mode number before lines ≡ Some refusal → Fronts mode number before lines refusal
-fronts mode number before [] refusal e = (let clash : None ≡ Some refusal = e in cc clash)
-fronts mode number before (line ∷ lines) refusal e =
-    here mode number before line lines refusal (first_fault_of (line_conditions mode before line)) refl e
-    (fronts mode (number + 1) (before ++ line.text ∷ []) lines refusal)
+fronts : (mode : Mode) (version : Version) (number : ℕ) (before : List (List ℕ)) (lines : List Line) (refusal : Refusal) → fault_behind mode version number before lines ≡ Some refusal → Fronts mode version number before lines refusal
+fronts mode version number before [] refusal e = (let clash : None ≡ Some refusal = e in cc clash)
+fronts mode version number before (line ∷ lines) refusal e =
+    here mode version number before line lines refusal (first_fault_of (line_conditions mode version before line)) refl e
+    (fronts mode version (number + 1) (before ++ line.text ∷ []) lines refusal)
 
 -- with line 1
 
-behind_header : (mode : Mode) (line : Line) (lines : List Line) (refusal : Refusal) (met : Option Fault) → first_fault_of (header_conditions line) ≡ met → first_of 1 met (fault_behind mode 2 [] lines) ≡ Some refusal
+behind_header : (mode : Mode) (line : Line) (lines : List Line) (refusal : Refusal) (met : Option Fault) (told : Option Version) → first_fault_of (header_conditions line) ≡ met → version_in line.text ≡ told
+    → first_of 1 met (fault_behind_header mode told lines) ≡ Some refusal
     → (fault_in mode (take refusal.line (line ∷ lines)) ≡ Some refusal) × (refusal.line ≢ 1 → fault_in mode (take (refusal.line - 1) (line ∷ lines)) ≡ None)
-behind_header mode line lines refusal None m e =
-    let front = fronts mode 2 [] lines refusal e in
+behind_header mode line lines refusal None None m t e = (let clash : None ≡ Some refusal = e in cc clash)
+behind_header mode line lines refusal None (Some version) m t e =
+    let front = fronts mode version 2 [] lines refusal e in
     let whole : refusal.line ≡ suc (suc front.0) = front.1 ∙ later front.0 in
     let others : refusal.line - 1 ≡ suc front.0 = ap (λ (n : ℕ). n - 1) whole ∙ before front.0 in (
-      ap (λ (n : ℕ). fault_in mode (take n (line ∷ lines))) whole ∙ ap (λ (met : Option Fault). first_of 1 met (fault_behind mode 2 [] (take (suc front.0) lines))) m ∙ front.3,
-      λ other. ap (λ (n : ℕ). fault_in mode (take n (line ∷ lines))) others ∙ ap (λ (met : Option Fault). first_of 1 met (fault_behind mode 2 [] (take front.0 lines))) m ∙ front.2,
+      ap (λ (n : ℕ). fault_in mode (take n (line ∷ lines))) whole ∙ told_by (take (suc front.0) lines) ∙ front.3,
+      λ other. ap (λ (n : ℕ). fault_in mode (take n (line ∷ lines))) others ∙ told_by (take front.0 lines) ∙ front.2,
     )
   where
     later : (k : ℕ) → 2 + k ≡ suc (suc k)
@@ -146,9 +150,14 @@ behind_header mode line lines refusal None m e =
 
     before : (k : ℕ) → suc (suc k) - 1 ≡ suc k
     before k = omega arith
-behind_header mode line lines refusal (Some fault) m e =
+
+    told_by : (front : List Line) → fault_in mode (line ∷ front) ≡ fault_behind mode version 2 [] front
+    told_by front =
+        ap (λ (met : Option Fault). first_of 1 met (fault_behind_header mode (version_in line.text) front)) m
+        ∙ ap (λ (known : Option Version). fault_behind_header mode known front) t
+behind_header mode line lines refusal (Some fault) told m t e =
     let first : refusal.line ≡ 1 = sym (ap (λ (r : Refusal). r.line) (some_is (refusal_at 1 fault) refusal e)) in (
-      ap (λ (n : ℕ). fault_in mode (take n (line ∷ lines))) first ∙ ap (λ (met : Option Fault). first_of 1 met None) m ∙ e,
+      ap (λ (n : ℕ). fault_in mode (take n (line ∷ lines))) first ∙ ap (λ (met : Option Fault). first_of 1 met (fault_behind_header mode (version_in line.text) [])) m ∙ e,
       λ other. absurd (other first),
     )
 
@@ -159,7 +168,7 @@ empty_front (suc count) = refl
 whole_fronts : (mode : Mode) (lines : List Line) (refusal : Refusal) → fault_in mode lines ≡ Some refusal
     → (fault_in mode (take refusal.line lines) ≡ Some refusal) × (refusal.line ≢ 1 → fault_in mode (take (refusal.line - 1) lines) ≡ None)
 whole_fronts mode [] refusal e = (ap (fault_in mode) (empty_front refusal.line) ∙ e, λ other. absurd (other (sym (ap (λ (r : Refusal). r.line) (some_is _ refusal e)))))
-whole_fronts mode (line ∷ lines) refusal e = behind_header mode line lines refusal (first_fault_of (header_conditions line)) refl e
+whole_fronts mode (line ∷ lines) refusal e = behind_header mode line lines refusal (first_fault_of (header_conditions line)) (version_in line.text) refl refl e
 
 -- a text without a faulty line is a trace
 faultless : (bytes : List ℕ) (mode : Mode) → first_fault bytes mode ≡ None → IsRead bytes mode

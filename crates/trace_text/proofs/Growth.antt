@@ -4,6 +4,7 @@ use Rattle.std.specs.List.{filter_map, cons_option}
 use Rattle.std.specs.Option.{option_to_list}
 use Rattle.std.proofs.lemmas.List.Elements.{filter_map-append}
 use Rattle.std.proofs.lemmas.List.Sums.{sum_by-append}
+use Rattle.trace_text.specs.declared.version.Version.{Version}
 use Rattle.trace_text.specs.Traces.{Traced}
 use Rattle.trace_text.specs.Faults.{statement_of, thread_in, backend_name_in, is_call, Declarations, declarations}
 use Rattle.trace_text.proofs.Agreement.{declarations_of}
@@ -24,17 +25,18 @@ count_more {A} p before line b e =
     zero_before : (n : ℕ) → 0 + n ≡ n
     zero_before n = omega arith
 
-declarations_are : (threads backends : List (List ℕ)) (calls : ℕ) (trace : Traced) → threads ≡ trace.threads → backends ≡ map (λ backend. backend.name) trace.backends → calls ≡ length trace.calls
-    → record { threads = threads; backends = backends; calls = calls } ≡ declarations_of trace
-declarations_are threads backends calls trace e f g = cc
+declarations_are : (version : Version) (threads backends : List (List ℕ)) (calls : ℕ) (trace : Traced) → version ≡ trace.version → threads ≡ trace.threads → backends ≡ map (λ backend. backend.name) trace.backends → calls ≡ length trace.calls
+    → record { version = version; threads = threads; backends = backends; calls = calls } ≡ declarations_of trace
+declarations_are version threads backends calls trace v e f g = cc
 
 -- a line declares what it says, and the trace has that beside what it had
-pub growth : (before : List (List ℕ)) (line : List ℕ) (trace after : Traced) (thread backend : Option (List ℕ)) (call : Bool) → declarations before ≡ declarations_of trace
+pub growth : (version : Version) (before : List (List ℕ)) (line : List ℕ) (trace after : Traced) (thread backend : Option (List ℕ)) (call : Bool) → declarations version before ≡ declarations_of trace
     → thread_in (statement_of line) ≡ thread → backend_name_in (statement_of line) ≡ backend → is_call (statement_of line) ≡ call
-    → after.threads ≡ trace.threads ++ option_to_list thread → map (λ backend. backend.name) after.backends ≡ map (λ backend. backend.name) trace.backends ++ option_to_list backend
-    → length after.calls ≡ length trace.calls + cond call 1 0 → declarations (before ++ line ∷ []) ≡ declarations_of after
-growth before line trace after thread backend call e t b c at ab ac =
-    declarations_are _ _ _ after
+    → after.version ≡ trace.version → after.threads ≡ trace.threads ++ option_to_list thread → map (λ backend. backend.name) after.backends ≡ map (λ backend. backend.name) trace.backends ++ option_to_list backend
+    → length after.calls ≡ length trace.calls + cond call 1 0 → declarations version (before ++ line ∷ []) ≡ declarations_of after
+growth version before line trace after thread backend call e t b c av at ab ac =
+    declarations_are version _ _ _ after
+    (ap (λ (k : Declarations). k.version) e ∙ sym av)
     (one_more (λ text. thread_in (statement_of text)) before line thread t ∙ ap (λ (k : Declarations). k.threads ++ option_to_list thread) e ∙ sym at)
     (one_more (λ text. backend_name_in (statement_of text)) before line backend b ∙ ap (λ (k : Declarations). k.backends ++ option_to_list backend) e ∙ sym ab)
     (count_more (λ text. is_call (statement_of text)) before line call c ∙ ap (λ (k : Declarations). k.calls + cond call 1 0) e ∙ sym ac)

@@ -8,7 +8,7 @@ use Rattle.trace_text.specs.declared.trace.Mode.{Mode}
 use Rattle.trace_text.specs.Traces.{Traced, nothing}
 use Rattle.trace_text.specs.Fields.{pieces_of}
 use Rattle.trace_text.specs.Lines.{after_line}
-use Rattle.trace_text.specs.Reading.{on_line, trace_on, on_header, header_fault, trace_in, trace_at}
+use Rattle.trace_text.specs.Reading.{on_line, trace_on, on_header, version_of, trace_in, trace_at}
 use Rattle.trace_text.specs.Refusals.{refusal_at, FailsTrace}
 use Rattle.trace_text.proofs.Cuts.{first_piece}
 
@@ -21,11 +21,11 @@ line_first mode number trace text line left cut =
     ∙ ap (λ (pieces : List (List ℕ)). on_line number (after_line mode trace line) (λ after. trace_on mode (number + 1) after pieces)) (sym rest.2)
 
 pub header_first : (mode : Mode) (text line left : List ℕ) → pieces_of text ≡ line ∷ pieces_of left
-    → trace_at mode text ≡ on_header (header_fault line) (trace_on mode 2 (nothing 1) (pieces_of left))
+    → trace_at mode text ≡ on_header (version_of line) (λ version. trace_on mode 2 (nothing version) (pieces_of left))
 header_first mode text line left cut =
     let rest = first_piece (λ byte. byte == 10) left in
     ap (trace_in mode) (cut ∙ ap (λ (pieces : List (List ℕ)). line ∷ pieces) rest.2)
-    ∙ ap (λ (pieces : List (List ℕ)). on_header (header_fault line) (trace_on mode 2 (nothing 1) pieces)) (sym rest.2)
+    ∙ ap (λ (pieces : List (List ℕ)). on_header (version_of line) (λ version. trace_on mode 2 (nothing version) pieces)) (sym rest.2)
 
 -- the refusal that is told is the one that is read
 pub tells_refusal : {B : Type 0} (number : ℕ) (fault : Fault) (told : TraceRefusal) (read : Result B Refusal) → told ≡ Faulty (refusal_at number fault) → read ≡ Err (refusal_at number fault) → FailsTrace told read

@@ -9,10 +9,11 @@ use Rattle.trace_text.specs.declared.refusal.Fault.TheVariants.{Header, UnknownW
 use Rattle.trace_text.specs.declared.refusal.Refusal.{Refusal}
 use Rattle.trace_text.specs.declared.trace.BackendLine.{BackendLine}
 use Rattle.trace_text.specs.declared.trace.Mode.{Mode}
+use Rattle.trace_text.specs.declared.version.Version.{Version}
 use Rattle.trace_text.specs.Fields.{pieces_of, fields_of, is_skipped, label_in}
 use Rattle.trace_text.specs.Openings.{is_opening_word}
 use Rattle.trace_text.specs.Words.{Form, form_of, name_in, backend_in}
-use Rattle.trace_text.specs.Grammar.{header}
+use Rattle.trace_text.specs.Versions.{version_in}
 use Rattle.trace_text.specs.Refusals.{refusal_at}
 
 -- Lines.
@@ -34,7 +35,7 @@ lines_from (text ∷ next ∷ pieces) = line_of text true ∷ lines_from (next �
 abbrev pub lines_of : List ℕ → List Line
 lines_of bytes = lines_from (pieces_of bytes)
 
--- What lines without a fault have declared, and how many calls they make.
+-- What lines without a fault have declared, of a trace of that version, and how many calls they make.
 
 -- a skipped line says nothing
 abbrev pub statement_of : List ℕ → List (List ℕ)
@@ -53,12 +54,14 @@ is_call [] = false
 is_call (first ∷ fields) = is_some (label_in first)
 
 pub record Declarations : Type 0 where
+  pub version : Version
   pub threads : List (List ℕ)
   pub backends : List (List ℕ)
   pub calls : ℕ
 
-abbrev pub declarations : List (List ℕ) → Declarations
-declarations before = record {
+abbrev pub declarations : Version → List (List ℕ) → Declarations
+declarations version before = record {
+  version = version;
   threads = filter_map (λ text. thread_in (statement_of text)) before;
   backends = filter_map (λ text. backend_name_in (statement_of text)) before;
   calls = count_by (λ text. is_call (statement_of text)) before;
@@ -123,24 +126,24 @@ backend_conditions mode declarations fields =
     ∷ []
 
 -- the form of the word in the fields behind a label, and the call that the fields make
-abbrev pub form_behind : List (List ℕ) → Option Form
-form_behind [] = None
-form_behind (word ∷ fields) = form_of word
+abbrev pub form_behind : Version → List (List ℕ) → Option Form
+form_behind version [] = None
+form_behind version (word ∷ fields) = form_of version word
 
 abbrev pub call_with_form : List Bool → Option Form → List (List ℕ) → Option TraceCall
 call_with_form openings None fields = None
 call_with_form openings (Some form) fields = form openings fields
 
-abbrev pub call_behind_label : List Bool → List (List ℕ) → Option TraceCall
-call_behind_label openings [] = None
-call_behind_label openings (word ∷ fields) = call_with_form openings (form_of word) fields
+abbrev pub call_behind_label : Version → List Bool → List (List ℕ) → Option TraceCall
+call_behind_label version openings [] = None
+call_behind_label version openings (word ∷ fields) = call_with_form openings (form_of version word) fields
 
 -- of a call of the thread of that name, where `openings` says which of its earlier calls are opening calls
 abbrev pub call_conditions : Declarations → List Bool → List ℕ → List (List ℕ) → List Condition
 call_conditions declarations openings name fields =
     fault_where UnknownName (is_none (position (λ thread. is_text thread name) declarations.threads))
-    ∷ fault_where UnknownWord (is_none (form_behind fields))
-    ∷ fault_where BadArgument (is_none (call_behind_label openings fields))
+    ∷ fault_where UnknownWord (is_none (form_behind declarations.version fields))
+    ∷ fault_where BadArgument (is_none (call_behind_label declarations.version openings fields))
     ∷ fault_where TooManyCalls (nat_le calls_max declarations.calls)
     ∷ []
 
@@ -163,19 +166,19 @@ abbrev pub skipped_conditions : Bool → List Condition → List Condition
 skipped_conditions true conditions = []
 skipped_conditions false conditions = conditions
 
--- of a line after line 1, behind the lines `before`
-abbrev pub line_conditions : Mode → List (List ℕ) → Line → List Condition
-line_conditions mode before line =
+-- of a line after line 1 of a trace of that version, behind the lines `before`
+abbrev pub line_conditions : Mode → Version → List (List ℕ) → Line → List Condition
+line_conditions mode version before line =
     fault_where MissingNewline (not line.ended)
     ∷ fault_where LineTooLong (nat_lt line_max (length line.text))
-    ∷ skipped_conditions (is_skipped line.text) (field_conditions mode (declarations before) (openings_by before) (fields_of line.text))
+    ∷ skipped_conditions (is_skipped line.text) (field_conditions mode (declarations version before) (openings_by before) (fields_of line.text))
 
 -- of line 1
 abbrev pub header_conditions : Line → List Condition
 header_conditions line =
     fault_where MissingNewline (not line.ended)
     ∷ fault_where LineTooLong (nat_lt line_max (length line.text))
-    ∷ fault_where Header (not (is_text line.text header))
+    ∷ fault_where Header (is_none (version_in line.text))
     ∷ []
 
 abbrev pub first_of : ℕ → Option Fault → Option Refusal → Option Refusal
@@ -183,15 +186,20 @@ first_of number None others = others
 first_of number (Some fault) others = Some (refusal_at number fault)
 
 -- the first fault of the lines from line `number` on, where `before` are those after line 1 and before it
-abbrev pub fault_behind : Mode → ℕ → List (List ℕ) → List Line → Option Refusal
-fault_behind mode number before [] = None
-fault_behind mode number before (line ∷ lines) =
-    first_of number (first_fault_of (line_conditions mode before line)) (fault_behind mode (number + 1) (before ++ line.text ∷ []) lines)
+abbrev pub fault_behind : Mode → Version → ℕ → List (List ℕ) → List Line → Option Refusal
+fault_behind mode version number before [] = None
+fault_behind mode version number before (line ∷ lines) =
+    first_of number (first_fault_of (line_conditions mode version before line)) (fault_behind mode version (number + 1) (before ++ line.text ∷ []) lines)
+
+-- the same of all lines behind line 1, where that tells the version
+abbrev pub fault_behind_header : Mode → Option Version → List Line → Option Refusal
+fault_behind_header mode None lines = None
+fault_behind_header mode (Some version) lines = fault_behind mode version 2 [] lines
 
 -- a text without a line is `Header` in line 1
 abbrev pub fault_in : Mode → List Line → Option Refusal
 fault_in mode [] = Some (refusal_at 1 Header)
-fault_in mode (line ∷ lines) = first_of 1 (first_fault_of (header_conditions line)) (fault_behind mode 2 [] lines)
+fault_in mode (line ∷ lines) = first_of 1 (first_fault_of (header_conditions line)) (fault_behind_header mode (version_in line.text) lines)
 
 abbrev pub first_fault : List ℕ → Mode → Option Refusal
 first_fault bytes mode = fault_in mode (lines_of bytes)

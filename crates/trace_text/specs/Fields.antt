@@ -37,6 +37,11 @@ abbrev pub three_of : List (List ℕ) → Option (List ℕ × (List ℕ × List 
 three_of (first ∷ second ∷ third ∷ []) = Some (first, (second, third))
 three_of fields = None
 
+-- the four fields, where there are no more
+abbrev pub four_of : List (List ℕ) → Option (List ℕ × (List ℕ × (List ℕ × List ℕ)))
+four_of (first ∷ second ∷ third ∷ fourth ∷ []) = Some (first, (second, (third, fourth)))
+four_of fields = None
+
 -- an empty line, or a comment
 abbrev pub is_skipped : List ℕ → Bool
 is_skipped [] = true

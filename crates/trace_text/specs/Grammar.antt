@@ -4,6 +4,8 @@ use Rattle.wf_core.specs.Limits.{line_max, threads_max, backends_max, calls_max}
 use Rattle.trace_text.specs.declared.trace_call.TraceCall.{TraceCall}
 use Rattle.trace_text.specs.declared.trace.BackendLine.{BackendLine}
 use Rattle.trace_text.specs.declared.trace.Mode.{Mode}
+use Rattle.trace_text.specs.declared.version.Version.{Version}
+use Rattle.trace_text.specs.Versions.{header}
 use Rattle.trace_text.specs.Traces.{Traced, nothing, is_declared, thread_number, with_thread, with_backend, with_call}
 use Rattle.trace_text.specs.Fields.{pieces_of, fields_of, is_skipped, label_in, is_label}
 use Rattle.trace_text.specs.Openings.{openings_of}
@@ -34,12 +36,12 @@ DeclaresBackend mode before line after =
     × (is_declared before backend.name ≡ false) × (length before.backends + 1 < backends_max)
     × (after ≡ with_backend before backend)
 
--- that a thread makes that call
+-- that a thread makes that call, by a word of the trace's version
 abbrev pub MakesCall : Traced → List ℕ → Traced → Type 0
 MakesCall before line after =
     (first word : List ℕ) × (fields : List (List ℕ)) × (fields_of line ≡ first ∷ word ∷ fields)
     × (name : List ℕ) × (label_in first ≡ Some name) × (thread : ℕ) × (thread_number before name ≡ Some thread)
-    × (form : Form) × (form_of word ≡ Some form) × (call : TraceCall) × (form (openings_of thread before.calls) fields ≡ Some call)
+    × (form : Form) × (form_of before.version word ≡ Some form) × (call : TraceCall) × (form (openings_of thread before.calls) fields ≡ Some call)
     × (length before.calls < calls_max) × (after ≡ with_call before thread call)
 
 -- what a line may say
@@ -54,10 +56,6 @@ abbrev pub SayAll : Mode → Traced → List (List ℕ) → Traced → Type 0
 SayAll mode before [] after = after ≡ before
 SayAll mode before (line ∷ lines) after = (between : Traced) × Says mode before line between × SayAll mode between lines after
 
--- the line with which a trace of version 1 begins
-abbrev pub header : List ℕ
-header = codes "wasmfs-trace 1"
-
--- bytes are a trace: the header and then lines, each ended by byte 10
+-- bytes are a trace: the header of its version and then lines, each ended by byte 10
 abbrev pub Reads : List ℕ → Mode → Traced → Type 0
-Reads bytes mode trace = (lines : List (List ℕ)) × (pieces_of bytes ≡ (header ∷ lines) ++ [] ∷ []) × SayAll mode (nothing 1) lines trace
+Reads bytes mode trace = (version : Version) × (lines : List (List ℕ)) × (pieces_of bytes ≡ (header version ∷ lines) ++ [] ∷ []) × SayAll mode (nothing version) lines trace

@@ -1,3 +1,4 @@
+pub mod Versions
 pub mod Traces
 pub mod Refusals
 pub mod Fields

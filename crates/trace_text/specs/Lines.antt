@@ -7,6 +7,7 @@ use Rattle.trace_text.specs.declared.refusal.Fault.{Fault}
 use Rattle.trace_text.specs.declared.refusal.Fault.TheVariants.{UnknownWord, BadArgument, UnknownName, DuplicateName, LineTooLong, TooManyCalls, TooManyThreads, TooManyBackends}
 use Rattle.trace_text.specs.declared.trace.BackendLine.{BackendLine}
 use Rattle.trace_text.specs.declared.trace.Mode.{Mode}
+use Rattle.trace_text.specs.declared.version.Version.{Version}
 use Rattle.trace_text.specs.Traces.{Traced, is_declared, thread_number, with_thread, with_backend, with_call}
 use Rattle.trace_text.specs.Fields.{fields_of, is_skipped, label_in}
 use Rattle.trace_text.specs.Openings.{openings_of}
@@ -33,9 +34,9 @@ abbrev pub call_behind : Option (Option TraceCall) → Result TraceCall Fault
 call_behind None = Err UnknownWord
 call_behind (Some call) = ok_or call BadArgument
 
-abbrev pub call_of : List Bool → List (List ℕ) → Result TraceCall Fault
-call_of openings [] = Err UnknownWord
-call_of openings (word ∷ fields) = call_behind (option_map (λ form. form openings fields) (form_of word))
+abbrev pub call_of : Version → List Bool → List (List ℕ) → Result TraceCall Fault
+call_of version openings [] = Err UnknownWord
+call_of version openings (word ∷ fields) = call_behind (option_map (λ form. form openings fields) (form_of version word))
 
 abbrev pub after_call_of : Traced → ℕ → Result TraceCall Fault → Result Traced Fault
 after_call_of trace thread (Err fault) = Err fault
@@ -43,7 +44,7 @@ after_call_of trace thread (Ok call) = if nat_le calls_max (length trace.calls) 
 
 abbrev pub after_call : Traced → Option ℕ → List (List ℕ) → Result Traced Fault
 after_call trace None fields = Err UnknownName
-after_call trace (Some thread) fields = after_call_of trace thread (call_of (openings_of thread trace.calls) fields)
+after_call trace (Some thread) fields = after_call_of trace thread (call_of trace.version (openings_of thread trace.calls) fields)
 
 abbrev pub after_declaration : Mode → Traced → List ℕ → List (List ℕ) → Result Traced Fault
 after_declaration mode trace word fields =

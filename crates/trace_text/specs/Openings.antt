@@ -5,17 +5,19 @@ use Rattle.wf_core.specs.Limits.{threads_max}
 use Rattle.wf_core.specs.Names.{is_text}
 use Rattle.trace_text.specs.declared.trace.CallLine.{CallLine}
 use Rattle.trace_text.specs.declared.trace_call.TraceCall.{TraceCall}
-use Rattle.trace_text.specs.declared.trace_call.TraceCall.TheVariants.{Open, Dup, Dup2}
+use Rattle.trace_text.specs.declared.trace_call.TraceCall.TheVariants.{Open, Dup, Dup2, At}
+use Rattle.trace_text.specs.declared.trace_call.AtCall.TheVariants.{Openat}
 
 abbrev pub is_opening : TraceCall → Bool
 is_opening (Open path flags) = true
 is_opening (Dup descriptor) = true
 is_opening (Dup2 descriptor target) = true
+is_opening (At (Openat base path flags)) = true
 is_opening call = false
 
 -- the words of such calls
 abbrev pub is_opening_word : List ℕ → Bool
-is_opening_word word = is_text word (codes "open") || is_text word (codes "dup") || is_text word (codes "dup2")
+is_opening_word word = is_text word (codes "open") || is_text word (codes "dup") || is_text word (codes "dup2") || is_text word (codes "openat")
 
 abbrev pub opening_of : ℕ → CallLine → Option Bool
 opening_of thread line = if line.thread == thread then Some (is_opening line.call) else None

@@ -1,7 +1,6 @@
 -- Reading a trace line by line: the trace, or the first faulty line and its first fault.
-use Rattle.std.specs.Prelude.{◌≡◌, ℕ, ◌+◌, ◌==◌, nat_lt, if◌then◌else◌, List, [], ◌∷◌, length, Option, None, Some, Result, Ok, Err}
+use Rattle.std.specs.Prelude.{◌≡◌, ℕ, ◌+◌, ◌==◌, nat_lt, if◌then◌else◌, List, [], ◌∷◌, length, Result, Ok, Err, ok_or}
 use Rattle.wf_core.specs.Limits.{line_max}
-use Rattle.wf_core.specs.Names.{is_text}
 use Rattle.trace_text.specs.declared.refusal.Fault.{Fault}
 use Rattle.trace_text.specs.declared.refusal.Fault.TheVariants.{Header, LineTooLong, MissingNewline}
 use Rattle.trace_text.specs.declared.refusal.Refusal.{Refusal}
@@ -9,7 +8,8 @@ use Rattle.trace_text.specs.declared.trace.Mode.{Mode}
 use Rattle.trace_text.specs.Traces.{Traced, nothing}
 use Rattle.trace_text.specs.Fields.{pieces_of}
 use Rattle.trace_text.specs.Lines.{after_line}
-use Rattle.trace_text.specs.Grammar.{header}
+use Rattle.trace_text.specs.declared.version.Version.{Version}
+use Rattle.trace_text.specs.Versions.{version_in}
 use Rattle.trace_text.specs.Refusals.{refusal_at}
 
 abbrev pub on_line : ℕ → Result Traced Fault → (Traced → Result Traced Refusal) → Result Traced Refusal
@@ -30,20 +30,18 @@ trace_on mode number trace (line ∷ next ∷ pieces) = on_line number (after_li
 abbrev pub first_end : List ℕ → Fault
 first_end rest = if length rest == 0 then Header else MissingNewline
 
-abbrev pub header_fault : List ℕ → Option Fault
-header_fault line =
-    if nat_lt line_max (length line) then Some LineTooLong
-    else if is_text line header then None
-    else Some Header
+-- the version that line 1 tells, or its fault
+abbrev pub version_of : List ℕ → Result Version Fault
+version_of line = if nat_lt line_max (length line) then Err LineTooLong else ok_or (version_in line) Header
 
-abbrev pub on_header : Option Fault → Result Traced Refusal → Result Traced Refusal
-on_header None read = read
-on_header (Some fault) read = Err (refusal_at 1 fault)
+abbrev pub on_header : Result Version Fault → (Version → Result Traced Refusal) → Result Traced Refusal
+on_header (Ok version) next = next version
+on_header (Err fault) next = Err (refusal_at 1 fault)
 
 abbrev pub trace_in : Mode → List (List ℕ) → Result Traced Refusal
 trace_in mode [] = Err (refusal_at 1 Header)
 trace_in mode (rest ∷ []) = Err (refusal_at 1 (first_end rest))
-trace_in mode (line ∷ next ∷ pieces) = on_header (header_fault line) (trace_on mode 2 (nothing 1) (next ∷ pieces))
+trace_in mode (line ∷ next ∷ pieces) = on_header (version_of line) (λ version. trace_on mode 2 (nothing version) (next ∷ pieces))
 
 abbrev pub trace_at : Mode → List ℕ → Result Traced Refusal
 trace_at mode bytes = trace_in mode (pieces_of bytes)

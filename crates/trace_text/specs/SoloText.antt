@@ -12,7 +12,9 @@ use Rattle.path_walk.specs.Posix.{posix}
 use Rattle.trace_text.specs.declared.trace.BackendLine.{BackendLine}
 use Rattle.trace_text.specs.declared.trace.CallLine.{CallLine}
 use Rattle.trace_text.specs.declared.trace.Mode.{Mode}
+use Rattle.trace_text.specs.declared.version.Version.{Version}
 use Rattle.trace_text.specs.Traces.{Traced, thread_name}
+use Rattle.trace_text.specs.Versions.{version_number}
 use Rattle.trace_text.specs.TraceCalls.{file_call, number_in_reply}
 use Rattle.trace_text.specs.Grammar.{Reads}
 use Rattle.trace_text.specs.Texts.{reply_line, tree_text, end_line}
@@ -29,8 +31,9 @@ opening_store backends = record {
   descriptors = descriptors_opening;
 }
 
--- what is between two calls: the store, and for each thread the numbers in the replies to its calls so far
+-- what is between two calls of a trace of that version: the store, and for each thread the numbers in the replies to its calls so far
 pub record Between : Type 0 where
+  pub version : Version
   pub store : Store
   pub numbers : List (List ℕ)
 
@@ -42,17 +45,18 @@ with_number numbers thread number = slice_set numbers thread (numbers_of numbers
 
 -- before the first call
 abbrev pub opening_of_run : Traced → Between
-opening_of_run trace = record { store = opening_store trace.backends; numbers = map (λ name. []) trace.threads }
+opening_of_run trace = record { version = trace.version; store = opening_store trace.backends; numbers = map (λ name. []) trace.threads }
 
 -- the call of a line, and what comes of it, taken at once
 abbrev pub call_of_line : Between → CallLine → Call
 call_of_line between line = file_call (numbers_of between.numbers line.thread) line.call
 
 abbrev pub outcome_of_line : Between → CallLine → CallOutcome
-outcome_of_line between line = posix between.store (call_of_line between line)
+outcome_of_line between line = posix (version_number between.version) between.store (call_of_line between line)
 
 abbrev pub after_call_line : Between → CallLine → Between
 after_call_line between line = record {
+  version = between.version;
   store = (outcome_of_line between line).store;
   numbers = with_number between.numbers line.thread (number_in_reply (outcome_of_line between line).reply);
 }

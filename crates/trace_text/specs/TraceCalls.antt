@@ -1,5 +1,7 @@
 -- The file call that a call of a trace is, once the replies to the calls before it are known.
 use Rattle.std.specs.Prelude.{ℕ, zero, suc, List, slice_get, unwrap_or}
+use Rattle.path_walk.specs.declared.call.Base.{Base}
+use Rattle.path_walk.specs.declared.call.Base.TheVariants as base
 use Rattle.path_walk.specs.declared.call.Call.{Call}
 use Rattle.path_walk.specs.declared.call.Call.TheVariants as call
 use Rattle.path_walk.specs.declared.call.Reply.{Reply}
@@ -8,8 +10,12 @@ use Rattle.trace_text.specs.declared.trace_call.Descriptor.{Descriptor}
 use Rattle.trace_text.specs.declared.trace_call.Descriptor.TheVariants.{Number, ReplyOf}
 use Rattle.path_walk.specs.declared.descriptor_call.DataCall.{DataCall}
 use Rattle.path_walk.specs.declared.descriptor_call.DataCall.TheVariants.{Read, Pread, Write, Pwrite, Seek, Ftruncate, Fstat}
+use Rattle.trace_text.specs.declared.trace_call.TraceBase.{TraceBase}
+use Rattle.trace_text.specs.declared.trace_call.TraceBase.TheVariants.{Cwd, Fd as FdBase}
+use Rattle.trace_text.specs.declared.trace_call.AtCall.{AtCall}
+use Rattle.trace_text.specs.declared.trace_call.AtCall.TheVariants.{Openat, Mkdirat, Rmdirat, Unlinkat, Fstatat, Renameat}
 use Rattle.trace_text.specs.declared.trace_call.TraceCall.{TraceCall}
-use Rattle.trace_text.specs.declared.trace_call.TraceCall.TheVariants.{Mkdir, Rmdir, Unlink, Symlink, Rename, Readlink, Stat, Lstat, List as ListCall, Open, Close, Dup, Dup2, Data}
+use Rattle.trace_text.specs.declared.trace_call.TraceCall.TheVariants.{Mkdir, Rmdir, Unlink, Symlink, Rename, Readlink, Stat, Lstat, List as ListCall, Open, Close, Dup, Dup2, Data, Chdir, Fchdir, At}
 
 -- the number for a reply that has none: a call that failed. No descriptor has it
 abbrev pub no_number : ℕ
@@ -29,6 +35,10 @@ abbrev pub number_of : List ℕ → Descriptor → ℕ
 number_of numbers (Number number) = number
 number_of numbers (ReplyOf call) = number_of_call numbers call
 
+abbrev pub base_of : List ℕ → TraceBase → Base
+base_of numbers Cwd = base.Cwd
+base_of numbers (FdBase descriptor) = base.Fd (number_of numbers descriptor)
+
 -- the call on the descriptor of that number
 abbrev pub data_call_on : ℕ → DataCall → Call
 data_call_on number (Read count) = call.Read number count
@@ -38,6 +48,14 @@ data_call_on number (Pwrite bytes offset) = call.Pwrite number bytes offset
 data_call_on number (Seek offset whence) = call.Seek number offset whence
 data_call_on number (Ftruncate size) = call.Ftruncate number size
 data_call_on number Fstat = call.Fstat number
+
+abbrev pub call_at : List ℕ → AtCall → Call
+call_at numbers (Openat base path flags) = call.Openat (base_of numbers base) path flags
+call_at numbers (Mkdirat base path) = call.Mkdirat (base_of numbers base) path
+call_at numbers (Rmdirat base path) = call.Rmdirat (base_of numbers base) path
+call_at numbers (Unlinkat base path) = call.Unlinkat (base_of numbers base) path
+call_at numbers (Fstatat base path) = call.Fstatat (base_of numbers base) path
+call_at numbers (Renameat base path new_base new) = call.Renameat (base_of numbers base) path (base_of numbers new_base) new
 
 -- the file call, by the numbers in the replies to the thread's calls so far
 abbrev pub file_call : List ℕ → TraceCall → Call
@@ -55,3 +73,6 @@ file_call numbers (Close descriptor) = call.Close (number_of numbers descriptor)
 file_call numbers (Dup descriptor) = call.Dup (number_of numbers descriptor)
 file_call numbers (Dup2 descriptor target) = call.Dup2 (number_of numbers descriptor) (number_of numbers target)
 file_call numbers (Data descriptor data_call) = data_call_on (number_of numbers descriptor) data_call
+file_call numbers (Chdir path) = call.Chdir path
+file_call numbers (Fchdir descriptor) = call.Fchdir (number_of numbers descriptor)
+file_call numbers (At call) = call_at numbers call

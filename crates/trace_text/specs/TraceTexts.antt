@@ -13,15 +13,24 @@ use Rattle.trace_text.specs.declared.trace_call.Descriptor.{Descriptor}
 use Rattle.trace_text.specs.declared.trace_call.Descriptor.TheVariants.{Number, ReplyOf}
 use Rattle.path_walk.specs.declared.descriptor_call.DataCall.{DataCall}
 use Rattle.path_walk.specs.declared.descriptor_call.DataCall.TheVariants.{Read, Pread, Write, Pwrite, Seek, Ftruncate, Fstat}
+use Rattle.trace_text.specs.declared.trace_call.TraceBase.{TraceBase}
+use Rattle.trace_text.specs.declared.trace_call.TraceBase.TheVariants.{Cwd, Fd}
+use Rattle.trace_text.specs.declared.trace_call.AtCall.{AtCall}
+use Rattle.trace_text.specs.declared.trace_call.AtCall.TheVariants.{Openat, Mkdirat, Rmdirat, Unlinkat, Fstatat, Renameat}
 use Rattle.trace_text.specs.declared.trace_call.TraceCall.{TraceCall}
-use Rattle.trace_text.specs.declared.trace_call.TraceCall.TheVariants.{Mkdir, Rmdir, Unlink, Symlink, Rename, Readlink, Stat, Lstat, List as ListCall, Open, Close, Dup, Dup2, Data}
+use Rattle.trace_text.specs.declared.trace_call.TraceCall.TheVariants.{Mkdir, Rmdir, Unlink, Symlink, Rename, Readlink, Stat, Lstat, List as ListCall, Open, Close, Dup, Dup2, Data, Chdir, Fchdir, At}
 use Rattle.trace_text.specs.Fields.{text_field}
 use Rattle.trace_text.specs.Grammar.{kind_word}
 use Rattle.trace_text.specs.Traces.{Traced, thread_name}
+use Rattle.trace_text.specs.Versions.{header}
 
 abbrev pub descriptor_field : Descriptor → List ℕ
 descriptor_field (Number number) = decimal number
 descriptor_field (ReplyOf call) = 64 ∷ decimal call
+
+abbrev pub base_field : TraceBase → List ℕ
+base_field Cwd = codes "cwd"
+base_field (Fd descriptor) = descriptor_field descriptor
 
 abbrev pub whence_field : Whence → List ℕ
 whence_field whence.Set = codes "set"
@@ -53,6 +62,14 @@ data_fields descriptor (Seek offset whence) = codes "seek" ∷ descriptor ∷ si
 data_fields descriptor (Ftruncate size) = codes "ftruncate" ∷ descriptor ∷ signed_decimal size ∷ []
 data_fields descriptor Fstat = codes "fstat" ∷ descriptor ∷ []
 
+abbrev pub at_fields : AtCall → List (List ℕ)
+at_fields (Openat base path flags) = codes "openat" ∷ base_field base ∷ text_field path ∷ flags_field flags ∷ []
+at_fields (Mkdirat base path) = codes "mkdirat" ∷ base_field base ∷ text_field path ∷ []
+at_fields (Rmdirat base path) = codes "rmdirat" ∷ base_field base ∷ text_field path ∷ []
+at_fields (Unlinkat base path) = codes "unlinkat" ∷ base_field base ∷ text_field path ∷ []
+at_fields (Fstatat base path) = codes "fstatat" ∷ base_field base ∷ text_field path ∷ []
+at_fields (Renameat base path new_base new) = codes "renameat" ∷ base_field base ∷ text_field path ∷ base_field new_base ∷ text_field new ∷ []
+
 abbrev pub call_fields : TraceCall → List (List ℕ)
 call_fields (Mkdir path) = codes "mkdir" ∷ text_field path ∷ []
 call_fields (Rmdir path) = codes "rmdir" ∷ text_field path ∷ []
@@ -68,6 +85,9 @@ call_fields (Close descriptor) = codes "close" ∷ descriptor_field descriptor �
 call_fields (Dup descriptor) = codes "dup" ∷ descriptor_field descriptor ∷ []
 call_fields (Dup2 descriptor target) = codes "dup2" ∷ descriptor_field descriptor ∷ descriptor_field target ∷ []
 call_fields (Data descriptor call) = data_fields (descriptor_field descriptor) call
+call_fields (Chdir path) = codes "chdir" ∷ text_field path ∷ []
+call_fields (Fchdir descriptor) = codes "fchdir" ∷ descriptor_field descriptor ∷ []
+call_fields (At call) = at_fields call
 
 abbrev pub call_text : TraceCall → List ℕ
 call_text call = join_with_byte 32 (call_fields call)
@@ -89,7 +109,7 @@ ended line = line ++ 10 ∷ []
 -- line 1, the threads, the backends, and the calls in their order
 abbrev pub text_of_trace : Traced → List ℕ
 text_of_trace trace =
-    ended (codes "wasmfs-trace " ++ decimal trace.version)
+    ended (header trace.version)
     ++ flat_map (λ name. ended (thread_line name)) trace.threads
     ++ flat_map (λ backend. ended (backend_text backend)) trace.backends
     ++ flat_map (λ line. ended (call_line trace.threads line)) trace.calls

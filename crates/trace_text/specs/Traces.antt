@@ -7,10 +7,11 @@ use Rattle.trace_text.specs.declared.trace_call.TraceCall.{TraceCall}
 use Rattle.trace_text.specs.declared.trace.CallLine.{CallLine}
 use Rattle.trace_text.specs.declared.trace.BackendLine.{BackendLine}
 use Rattle.trace_text.specs.declared.trace.Trace.{Trace}
+use Rattle.trace_text.specs.declared.version.Version.{Version}
 
 -- the version, the threads' names and the backends in order of declaration, and the calls in the trace's order
 pub record Traced : Type 0 where
-  pub version : ℕ
+  pub version : Version
   pub threads : List (List ℕ)
   pub backends : List BackendLine
   pub calls : List CallLine
@@ -19,7 +20,7 @@ abbrev pub traced : Trace → Traced
 traced trace = record { version = trace.version; threads = trace.threads.items; backends = trace.backends.items; calls = trace.calls.items }
 
 -- a trace that declares nothing
-abbrev pub nothing : ℕ → Traced
+abbrev pub nothing : Version → Traced
 nothing version = record { version = version; threads = []; backends = []; calls = [] }
 
 -- threads and backends share one name space, in which `main` stands from the start

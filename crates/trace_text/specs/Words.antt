@@ -13,10 +13,16 @@ use Rattle.trace_text.specs.declared.trace_call.Descriptor.TheVariants.{Number, 
 use Rattle.path_walk.specs.declared.descriptor_call.DataCall.TheVariants as on_file
 use Rattle.trace_text.specs.declared.trace_call.TraceCall.{TraceCall}
 use Rattle.trace_text.specs.declared.trace_call.TraceCall.TheVariants as call
+use Rattle.trace_text.specs.declared.trace_call.AtCall.{AtCall}
+use Rattle.trace_text.specs.declared.trace_call.AtCall.TheVariants as at
+use Rattle.trace_text.specs.declared.trace_call.TraceBase.{TraceBase}
+use Rattle.trace_text.specs.declared.trace_call.TraceBase.TheVariants.{Cwd, Fd}
+use Rattle.trace_text.specs.declared.version.Version.{Version}
+use Rattle.trace_text.specs.declared.version.Version.TheVariants as version
 use Rattle.trace_text.specs.declared.trace.BackendLine.{BackendLine}
 use Rattle.trace_text.specs.declared.trace.Mode.{Mode}
 use Rattle.trace_text.specs.declared.trace.Mode.TheVariants.{Plain, Full}
-use Rattle.trace_text.specs.Fields.{one_of, two_of, three_of, is_label, text_in, path_in, number_in, number_max, count_in, offset_in}
+use Rattle.trace_text.specs.Fields.{one_of, two_of, three_of, four_of, is_label, text_in, path_in, number_in, number_max, count_in, offset_in}
 use Rattle.trace_text.specs.Openings.{is_opening_at}
 use Rattle.trace_text.specs.Traces.{backend_line}
 
@@ -60,6 +66,10 @@ descriptor_in openings [] = None
 descriptor_in openings (byte ∷ field) =
     if byte == 64 then reply_of openings (number_in number_max field)
     else option_map Number (number_in number_max (byte ∷ field))
+
+-- a BASE: the current directory, or an FD
+abbrev pub base_in : List Bool → List ℕ → Option TraceBase
+base_in openings field = if is_text field (codes "cwd") then Some Cwd else option_map Fd (descriptor_in openings field)
 
 abbrev pub whence_in : List ℕ → Option Whence
 whence_in word =
@@ -132,6 +142,14 @@ module _ {A B C : Type 0} where
   abbrev pub three : (List ℕ → Option A) → (List ℕ → Option B) → (List ℕ → Option C) → List (List ℕ) → Option (A × (B × C))
   three first second third fields = all_of first second third (three_of fields)
 
+module _ {A B C D : Type 0} where
+  abbrev pub each_of : (List ℕ → Option A) → (List ℕ → Option B) → (List ℕ → Option C) → (List ℕ → Option D) → Option (List ℕ × (List ℕ × (List ℕ × List ℕ))) → Option (A × (B × (C × D)))
+  each_of first second third fourth None = None
+  each_of first second third fourth (Some fields) = pair (first fields.0) (pair (second fields.1.0) (pair (third fields.1.1.0) (fourth fields.1.1.1)))
+
+  abbrev pub four : (List ℕ → Option A) → (List ℕ → Option B) → (List ℕ → Option C) → (List ℕ → Option D) → List (List ℕ) → Option (A × (B × (C × D)))
+  four first second third fourth fields = each_of first second third fourth (four_of fields)
+
 -- the call that the fields behind a word make, where `openings` says of the earlier calls of its thread which are opening calls
 abbrev pub Form : Type 0
 Form = List Bool → List (List ℕ) → Option TraceCall
@@ -186,10 +204,37 @@ data_rows =
     ∷ row (codes "seek") (λ openings fields. option_map (λ x. call.Data x.0 (on_file.Seek x.1.0 x.1.1)) (three (descriptor_in openings) offset_in whence_in fields))
     ∷ []
 
+-- `WORD BASE PATH`
+abbrev pub base_path : (TraceBase → List ℕ → AtCall) → Form
+base_path make openings fields = option_map (λ x. call.At (make x.0 x.1)) (two (base_in openings) path_in fields)
+
+-- of version 2: with a base and a path alone
+abbrev pub base_rows : List Row
+base_rows =
+    row (codes "mkdirat") (base_path at.Mkdirat)
+    ∷ row (codes "rmdirat") (base_path at.Rmdirat)
+    ∷ row (codes "unlinkat") (base_path at.Unlinkat)
+    ∷ row (codes "fstatat") (base_path at.Fstatat)
+    ∷ []
+
+-- with more, or with neither
+abbrev pub relative_rows : List Row
+relative_rows =
+    row (codes "chdir") (one_path call.Chdir)
+    ∷ row (codes "fchdir") (λ openings fields. option_map call.Fchdir (one (descriptor_in openings) fields))
+    ∷ row (codes "openat") (λ openings fields. option_map (λ x. call.At (at.Openat x.0 x.1.0 x.1.1)) (three (base_in openings) path_in flags_in fields))
+    ∷ row (codes "renameat") (λ openings fields. option_map (λ x. call.At (at.Renameat x.0 x.1.0 x.1.1.0 x.1.1.1)) (four (base_in openings) path_in (base_in openings) path_in fields))
+    ∷ []
+
 -- the row of a word
 abbrev pub form_among : List Row → List ℕ → Option Form
 form_among rows word = option_map (λ row. row.form) (find (λ row. is_text word row.word) rows)
 
--- the calls of version 1
-abbrev pub form_of : List ℕ → Option Form
-form_of word = option_or (form_among path_rows word) (option_or (form_among pair_rows word) (option_or (form_among descriptor_rows word) (form_among data_rows word)))
+-- the calls that version 2 has beside those of version 1
+abbrev pub later_form : Version → List ℕ → Option Form
+later_form version.One word = None
+later_form version.Two word = option_or (form_among base_rows word) (form_among relative_rows word)
+
+-- the calls of a version
+abbrev pub form_of : Version → List ℕ → Option Form
+form_of version word = option_or (form_among path_rows word) (option_or (form_among pair_rows word) (option_or (form_among descriptor_rows word) (option_or (form_among data_rows word) (later_form version word))))

@@ -1,10 +1,10 @@
 ghost use Rattle.std.specs.Prelude.{◌≡◌};
 ghost use Rattle.trace_text.specs.Fields.{count_in, number_max, offset_in};
-ghost use Rattle.trace_text.specs.Words.{descriptor_in, reply_of, whence_in};
+ghost use Rattle.trace_text.specs.Words.{base_in, descriptor_in, reply_of, whence_in};
 
 use crate::field::{read_number, read_signed};
 use crate::openings::is_opening_at;
-use crate::trace_call::Descriptor;
+use crate::trace_call::{Descriptor, TraceBase};
 use file_store::Whence;
 use wf_core::OFFSET_MAX;
 
@@ -46,6 +46,16 @@ pub(crate) fn descriptor_in(openings: &[bool], field: &[u8]) -> Option<Descripto
         [b'@', digits @ ..] => reply_of(openings, digits),
         _ => Some(Descriptor::Number(count_in(field)?)),
     }
+}
+
+/// A BASE: `cwd`, or an FD.
+pub(crate) fn base_in(openings: &[bool], field: &[u8]) -> Option<TraceBase>
+    ensures { result ≡ base_in openings.now field.now }
+{
+    if field == b"cwd".as_slice() {
+        return Some(TraceBase::Cwd);
+    }
+    Some(TraceBase::Fd(descriptor_in(openings, field)?))
 }
 
 pub(crate) fn whence_in(word: &[u8]) -> Option<Whence>

@@ -13,7 +13,7 @@ use std::alloc::{AllocError, Global};
 use wf_core::Text;
 
 /// The descriptor that is the one field.
-fn descriptor_alone(openings: &[bool], fields: Option<&[u8]>) -> Option<Descriptor>
+pub(crate) fn descriptor_alone(openings: &[bool], fields: Option<&[u8]>) -> Option<Descriptor>
     ensures { result
         ≡ one (descriptor_in openings.now) (fields_in (option_copied fields.entry)) }
 {

@@ -1,7 +1,7 @@
 ghost use Rattle.std.specs.Prelude.{◌≡◌, ◌∷◌, ◌+◌, ◌*◌, Some, ◌==◌, ◌<◌, ◌^◌, length, position, option_map, [], IfNone, IfSome, MatchOption};
 ghost use Rattle.std.specs.List.{list_all, slice_split};
 ghost use Rattle.std.specs.Option.{option_copied};
-ghost use Rattle.trace_text.specs.Fields.{at_most, fields_in, negative_of, has_leading_zero, is_label, is_label_byte, is_skipped, label_in, number_in, one_of, pieces_behind, pieces_of, signed_in, three_of, two_of};
+ghost use Rattle.trace_text.specs.Fields.{at_most, fields_in, four_of, negative_of, has_leading_zero, is_label, is_label_byte, is_skipped, label_in, number_in, one_of, pieces_behind, pieces_of, signed_in, three_of, two_of};
 
 use memchr::memchr;
 
@@ -69,6 +69,16 @@ pub fn three_of(text: Option<&[u8]>) -> Option<(&[u8], &[u8], &[u8])>
     let (first, rest) = cut(text?, b' ');
     let (second, third) = two_of(rest)?;
     Some((first, second, third))
+}
+
+/// The four fields that a text is, where it has three spaces.
+pub(crate) fn four_of(text: Option<&[u8]>) -> Option<(&[u8], &[u8], &[u8], &[u8])>
+    ensures { option_map (λ x. (x.0.now, (x.1.now, (x.2.now, x.3.now)))) result
+        ≡ four_of (fields_in (option_copied text.entry)) }
+{
+    let (first, rest) = cut(text?, b' ');
+    let (second, third, fourth) = three_of(rest)?;
+    Some((first, second, third, fourth))
 }
 
 /// Whether a line is empty or a comment.

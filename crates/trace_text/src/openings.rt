@@ -2,7 +2,7 @@ ghost use Rattle.std.specs.Prelude.{◌≡◌, ◌<◌, ◌++◌, ◌∷◌, [],
 ghost use Rattle.wf_core.specs.Limits.{threads_max};
 ghost use Rattle.trace_text.specs.Openings.{is_opening, is_opening_at};
 
-use crate::trace_call::TraceCall;
+use crate::trace_call::{AtCall, TraceCall};
 use std::alloc::{AllocError, Global};
 use std::marker::Model;
 use wf_core::THREADS_MAX;
@@ -13,6 +13,7 @@ pub(crate) fn is_opening(call: &TraceCall) -> bool
 {
     match call {
         TraceCall::Open(_, _) | TraceCall::Dup(_) | TraceCall::Dup2(_, _) => true,
+        TraceCall::At(AtCall::Openat(_, _, _)) => true,
         _ => false,
     }
 }

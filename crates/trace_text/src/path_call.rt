@@ -13,7 +13,10 @@ use std::alloc::{AllocError, Global};
 use wf_core::PathText;
 
 /// The path that is the one field.
-fn path_alone(alloc: Global, fields: Option<&[u8]>) -> Result<Option<PathText>, AllocError>
+pub(crate) fn path_alone(
+    alloc: Global,
+    fields: Option<&[u8]>,
+) -> Result<Option<PathText>, AllocError>
     ensures { IfOk result
         (λ path. path ≡ one path_in (fields_in (option_copied fields.entry))) }
 {

@@ -1,9 +1,8 @@
-ghost use Rattle.std.specs.Prelude.{◌≡◌, IfErr, IfOk};
+ghost use Rattle.std.specs.Prelude.{◌≡◌, IfErr, IfOk, Ok};
 ghost use Rattle.trace_text.specs.Faults.{first_fault};
 ghost use Rattle.trace_text.specs.Fields.{pieces_of};
-ghost use Rattle.wf_core.specs.Names.{is_text};
-ghost use Rattle.trace_text.specs.Grammar.{Reads, header};
-ghost use Rattle.trace_text.specs.Reading.{first_end, header_fault, trace_at, trace_on};
+ghost use Rattle.trace_text.specs.Grammar.{Reads};
+ghost use Rattle.trace_text.specs.Reading.{first_end, trace_at, trace_on, version_of};
 ghost use Rattle.trace_text.specs.Refusals.{GivesTrace, Refuses, refusal_at};
 ghost use Rattle.trace_text.specs.Traces.{nothing, traced};
 
@@ -11,6 +10,7 @@ use crate::field::first_line;
 use crate::reader::Reader;
 use crate::refusal::{Fault, Refusal, TraceRefusal};
 use crate::trace::{Mode, Trace};
+use crate::version::{Version, version_in};
 use std::alloc::Global;
 use wf_core::LINE_MAX;
 
@@ -30,30 +30,27 @@ fn first_end(rest: &[u8]) -> Fault
     Fault::MissingNewline
 }
 
-/// Whether the line is that with which a trace of version 1 begins.
-fn is_header(line: &[u8]) -> bool
-    ensures { result ≡ is_text line.now header }
-{
-    line == b"wasmfs-trace 1".as_slice()
-}
-
-fn header_fault(line: &[u8]) -> Option<Fault>
-    ensures { result ≡ header_fault line.now }
+/// The version that line 1 tells.
+fn version_of(line: &[u8]) -> Result<Version, Fault>
+    ensures { result ≡ version_of line.now }
 {
     if line.len() > LINE_MAX {
-        return Some(Fault::LineTooLong);
+        return Err(Fault::LineTooLong);
     }
-    if is_header(line) {
-        return None;
-    }
-    Some(Fault::Header)
+    version_in(line).ok_or(Fault::Header)
 }
 
 /// Reads the lines after line 1.
-fn read_lines(alloc: Global, bytes: &[u8], mode: Mode) -> Result<Trace, TraceRefusal>
-    ensures { GivesTrace traced result (trace_on mode 2 (nothing 1) (pieces_of bytes.now)) }
+fn read_lines(
+    alloc: Global,
+    bytes: &[u8],
+    mode: Mode,
+    version: Version,
+) -> Result<Trace, TraceRefusal>
+    ensures { GivesTrace traced result
+        (trace_on mode 2 (nothing version) (pieces_of bytes.now)) }
 {
-    let mut reader = Reader::new(alloc, 1)?;
+    let mut reader = Reader::new(alloc, version)?;
     let mut number = 2;
     let mut rest = bytes;
     while let Some((line, left)) = first_line(rest) {
@@ -75,10 +72,10 @@ fn trace_of(alloc: Global, bytes: &[u8], mode: Mode) -> Result<Trace, TraceRefus
     let Some((first, rest)) = first_line(bytes) else {
         return Err(refusal_at(1, first_end(bytes)));
     };
-    if let Some(fault) = header_fault(first) {
-        return Err(refusal_at(1, fault));
+    match version_of(first) {
+        Ok(version) => read_lines(alloc, rest, mode, version),
+        Err(fault) => Err(refusal_at(1, fault)),
     }
-    read_lines(alloc, rest, mode)
 }
 
 /// Reads a trace. A refusal tells the first faulty line, and of its faults the one that is tried first.

@@ -17,6 +17,7 @@ use crate::openings::{Openings, is_opening};
 use crate::refusal::Fault;
 use crate::trace::{BackendLine, CallLine, Mode, Trace};
 use crate::trace_call::TraceCall;
+use crate::version::Version;
 use std::alloc::{AllocError, Global};
 use std::marker::Model;
 use wf_core::{BACKENDS_MAX, CALLS_MAX, LINE_MAX, THREADS_MAX, Text};
@@ -120,7 +121,7 @@ impl Model for Reader {
 
 impl Reader {
     /// A trace without declarations.
-    pub(crate) fn new(alloc: Global, version: u32) -> Result<Reader, AllocError>
+    pub(crate) fn new(alloc: Global, version: Version) -> Result<Reader, AllocError>
         ensures { IfOk result (λ reader. reader ≡ nothing version) }
     {
         Ok(Reader {
@@ -267,7 +268,7 @@ impl Reader {
         let Some(thread) = self.thread_number(name) else {
             return Ok(Err(Fault::UnknownName));
         };
-        let call = call_of(alloc, self.openings.of(thread), fields)?;
+        let call = call_of(alloc, self.trace.version, self.openings.of(thread), fields)?;
         self.read_call_of(thread, call)
     }
 

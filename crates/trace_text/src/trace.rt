@@ -1,4 +1,5 @@
 use crate::trace_call::TraceCall;
+use crate::version::Version;
 use wf_core::Text;
 
 /// Which lines a trace may have.
@@ -13,8 +14,8 @@ pub enum Mode {
 /// A trace that was read, with its declarations and its calls in their order.
 #[derive(Debug, Drop)]
 pub struct Trace {
-    /// The number of the format, as line 1 has it.
-    pub version: u32,
+    /// That of line 1.
+    pub version: Version,
     /// The names of the threads.
     pub threads: Vec<Text>,
     /// The backends besides the root's, which is number 0: the first of these is number 1.

@@ -1,7 +1,7 @@
 ghost use Rattle.std.specs.Prelude.{◌≡◌};
-ghost use Rattle.trace_text.specs.TraceCalls.{data_call_on, file_call, number_in_reply, number_of, number_of_call};
+ghost use Rattle.trace_text.specs.TraceCalls.{base_of, call_at, data_call_on, file_call, number_in_reply, number_of, number_of_call};
 
-use path_walk::{Call, DataCall, OpenFlags, Reply};
+use path_walk::{Base, Call, DataCall, OpenFlags, Reply};
 use wf_core::PathText;
 
 /// The number for a reply that has none. No descriptor has it, so a call on it replies `EBADF`.
@@ -14,6 +14,27 @@ pub enum Descriptor {
     Number(u32),
     /// By the reply to that call of the same thread, counted from 1.
     ReplyOf(u32),
+}
+
+/// Where a path of a call of a trace starts, unless it begins with a slash.
+#[derive(Clone, Copy, Debug, PartialEq, Eq)]
+pub enum TraceBase {
+    /// In the current directory.
+    Cwd,
+    /// In the directory that the descriptor names.
+    Fd(Descriptor),
+}
+
+/// A call of a trace whose paths have bases.
+#[derive(Debug, Drop)]
+pub enum AtCall {
+    Openat(TraceBase, PathText, OpenFlags),
+    Mkdirat(TraceBase, PathText),
+    Rmdirat(TraceBase, PathText),
+    Unlinkat(TraceBase, PathText),
+    Fstatat(TraceBase, PathText),
+    /// The path, and the new one, each with its base.
+    Renameat(TraceBase, PathText, TraceBase, PathText),
 }
 
 /// A call of a trace: a file call that may name descriptors by the replies to earlier calls.
@@ -37,6 +58,9 @@ pub enum TraceCall {
     /// The descriptor, and the target.
     Dup2(Descriptor, Descriptor),
     Data(Descriptor, DataCall),
+    Chdir(PathText),
+    Fchdir(Descriptor),
+    At(AtCall),
 }
 
 /// The descriptor's number in a reply, or `NO_NUMBER`.
@@ -73,6 +97,17 @@ impl Descriptor {
     }
 }
 
+impl TraceBase {
+    fn base(self, numbers: &[u32]) -> Base
+        ensures { result ≡ base_of numbers.now self }
+    {
+        match self {
+            TraceBase::Cwd => Base::Cwd,
+            TraceBase::Fd(descriptor) => Base::Fd(descriptor.number(numbers)),
+        }
+    }
+}
+
 /// The call on the descriptor of that number.
 fn data_call_on(number: u32, call: DataCall) -> Call
     ensures { result ≡ data_call_on number call }
@@ -100,6 +135,23 @@ fn data_call_on(number: u32, call: DataCall) -> Call
     }
 }
 
+impl AtCall {
+    fn into_call(self, numbers: &[u32]) -> Call
+        ensures { result ≡ call_at numbers.now self }
+    {
+        match self {
+            AtCall::Openat(base, path, flags) => Call::Openat(base.base(numbers), path, flags),
+            AtCall::Mkdirat(base, path) => Call::Mkdirat(base.base(numbers), path),
+            AtCall::Rmdirat(base, path) => Call::Rmdirat(base.base(numbers), path),
+            AtCall::Unlinkat(base, path) => Call::Unlinkat(base.base(numbers), path),
+            AtCall::Fstatat(base, path) => Call::Fstatat(base.base(numbers), path),
+            AtCall::Renameat(base, path, new_base, new) => {
+                Call::Renameat(base.base(numbers), path, new_base.base(numbers), new)
+            }
+        }
+    }
+}
+
 impl TraceCall {
     /// The file call, by the numbers in the replies to the thread's calls before it, as `number_in_reply` tells them.
     pub fn into_call(self, numbers: &[u32]) -> Call
@@ -123,6 +175,9 @@ impl TraceCall {
                 target: target.number(numbers),
             },
             TraceCall::Data(descriptor, call) => data_call_on(descriptor.number(numbers), call),
+            TraceCall::Chdir(path) => Call::Chdir(path),
+            TraceCall::Fchdir(descriptor) => Call::Fchdir(descriptor.number(numbers)),
+            TraceCall::At(call) => call.into_call(numbers),
         }
     }
 }

@@ -3,12 +3,12 @@ ghost use Rattle.std.specs.Fmt.{signed_decimal};
 ghost use Rattle.std.specs.List.{flat_map, join_with_byte};
 ghost use Rattle.trace_text.specs.Grammar.{kind_word};
 ghost use Rattle.trace_text.specs.Texts.{next_field};
-ghost use Rattle.trace_text.specs.TraceTexts.{access_field, backend_text, call_line, call_text, data_fields, descriptor_field, ended, flag_text, flags_field, text_of_trace, thread_line, whence_field};
+ghost use Rattle.trace_text.specs.TraceTexts.{access_field, at_fields, backend_text, base_field, call_line, call_text, data_fields, descriptor_field, ended, flag_text, flags_field, text_of_trace, thread_line, whence_field};
 ghost use Rattle.trace_text.specs.Traces.{thread_name, traced};
 
 use crate::print::{append_field, append_number, append_signed, append_sized};
 use crate::trace::{BackendLine, CallLine, Trace};
-use crate::trace_call::{Descriptor, TraceCall};
+use crate::trace_call::{AtCall, Descriptor, TraceBase, TraceCall};
 use file_store::{Access, Whence};
 use path_walk::{DataCall, OpenFlags};
 use std::alloc::{AllocError, Global};
@@ -147,6 +147,52 @@ fn append_data_call(
     }
 }
 
+fn append_base(text: &mut Vec<u8>, base: TraceBase) -> Result<(), AllocError>
+    ensures { OnOk result (text.new.items ≡ text.old.items ++ base_field base) }
+{
+    match base {
+        TraceBase::Cwd => text.extend_from_slice(b"cwd"),
+        TraceBase::Fd(descriptor) => append_descriptor(text, descriptor),
+    }
+}
+
+/// Appends a word, a base and a path.
+fn append_path_from(
+    text: &mut Vec<u8>,
+    word: &[u8],
+    base: TraceBase,
+    path: &PathText,
+) -> Result<(), AllocError>
+    ensures { OnOk result (text.new.items
+        ≡ text.old.items ++ (word.now ++ 32 ∷ base_field base ++ next_field path.now)) }
+{
+    text.extend_from_slice(word)?;
+    text.push(b' ')?;
+    append_base(text, base)?;
+    append_field(text, path.as_bytes())
+}
+
+fn append_at_call(text: &mut Vec<u8>, call: &AtCall) -> Result<(), AllocError>
+    ensures { OnOk result
+        (text.new.items ≡ text.old.items ++ join_with_byte 32 (at_fields call.now)) }
+{
+    match call {
+        AtCall::Openat(base, path, flags) => {
+            append_path_from(text, b"openat", *base, path)?;
+            text.push(b' ')?;
+            append_flags(text, *flags)
+        }
+        AtCall::Mkdirat(base, path) => append_path_from(text, b"mkdirat", *base, path),
+        AtCall::Rmdirat(base, path) => append_path_from(text, b"rmdirat", *base, path),
+        AtCall::Unlinkat(base, path) => append_path_from(text, b"unlinkat", *base, path),
+        AtCall::Fstatat(base, path) => append_path_from(text, b"fstatat", *base, path),
+        AtCall::Renameat(base, path, new_base, new) => {
+            append_path_from(text, b"renameat", *base, path)?;
+            append_path_from(text, b"", *new_base, new)
+        }
+    }
+}
+
 fn append_call(text: &mut Vec<u8>, call: &TraceCall) -> Result<(), AllocError>
     ensures { OnOk result (text.new.items ≡ text.old.items ++ call_text call.now) }
 {
@@ -175,6 +221,9 @@ fn append_call(text: &mut Vec<u8>, call: &TraceCall) -> Result<(), AllocError>
             append_use(text, b"", *target)
         }
         TraceCall::Data(descriptor, call) => append_data_call(text, *descriptor, call),
+        TraceCall::Chdir(path) => append_path(text, b"chdir", path),
+        TraceCall::Fchdir(descriptor) => append_use(text, b"fchdir", *descriptor),
+        TraceCall::At(call) => append_at_call(text, call),
     }
 }
 
@@ -238,7 +287,7 @@ pub fn print_trace(alloc: Global, trace: &Trace) -> Result<Vec<u8>, AllocError>
     ensures { IfOk result (λ text. text.items ≡ text_of_trace (traced trace.now)) }
 {
     let mut text = Vec::new(alloc);
-    append_sized(&mut text, b"wasmfs-trace ", u64::from(trace.version))?;
+    text.extend_from_slice(trace.version.header())?;
     text.push(b'\n')?;
     append_threads(&mut text, trace.threads.as_slice())?;
     append_backends(&mut text, trace.backends.as_slice())?;

@@ -15,6 +15,7 @@ mod links;
 mod mounts;
 mod moves;
 mod opens;
+mod relative;
 
 /// The lines of a run, and the reply lines that are due.
 #[derive(Drop)]
@@ -26,8 +27,13 @@ struct Script {
 
 impl Script {
     fn new(alloc: Global, declarations: &str) -> Result<Script, AllocError> {
+        Script::of(alloc, 1, declarations)
+    }
+
+    /// In a trace of that version.
+    fn of(alloc: Global, version: u32, declarations: &str) -> Result<Script, AllocError> {
         Ok(Script {
-            input: format!(in alloc; "wasmfs-trace 1\n{declarations}thread A\n")?,
+            input: format!(in alloc; "wasmfs-trace {version}\n{declarations}thread A\n")?,
             due: String::new(alloc),
             count: 0,
         })
@@ -63,7 +69,23 @@ pub(super) fn expect(
     declarations: &str,
     table: &str,
 ) -> Result<(), Fail> {
-    let mut script = Script::new(alloc, declarations)?;
+    expect_in(rt, alloc, 1, declarations, table)
+}
+
+/// The same of version 2, without declarations.
+fn expect_of(rt: &impl Abort, alloc: Global, table: &str) -> Result<(), Fail> {
+    expect_in(rt, alloc, 2, "", table)
+}
+
+/// The same of that version.
+fn expect_in(
+    rt: &impl Abort,
+    alloc: Global,
+    version: u32,
+    declarations: &str,
+    table: &str,
+) -> Result<(), Fail> {
+    let mut script = Script::of(alloc, version, declarations)?;
     for line in table.lines() {
         if !line.is_empty() && !line.starts_with('#') {
             let (call, reply) = line.split_once(" = ").ok_or("a call without a reply")?;

@@ -156,12 +156,17 @@ A: fstat 0;A: lstat a;A: unlink a;A: rmdir a;A: mkdir a;A: readlink a; = A: fsta
 ";
 
 /// Rows whose two texts both stand behind the front.
-fn expect_printed(rt: &impl Abort, alloc: Global, table: &str) -> Result<(), Fail> {
+pub(super) fn expect_printed(
+    rt: &impl Abort,
+    alloc: Global,
+    front: &str,
+    table: &str,
+) -> Result<(), Fail> {
     for line in table.lines() {
         if !line.is_empty() {
             let (read, printed) = line.split_once(" = ").ok_or("a row without a text")?;
-            let due = format!(in alloc; "wasmfs-trace 1;thread A;{printed}")?;
-            super::expect_told(rt, alloc, FRONT, read, &due)?;
+            let due = format!(in alloc; "{front}{printed}")?;
+            super::expect_told(rt, alloc, front, read, &due)?;
         }
     }
     Ok(())
@@ -169,5 +174,5 @@ fn expect_printed(rt: &impl Abort, alloc: Global, table: &str) -> Result<(), Fai
 
 #[test]
 fn calls_are_printed(rt: HostRuntime) -> Result<(), Fail> {
-    expect_printed(&rt, rt.alloc(), PRINTED)
+    expect_printed(&rt, rt.alloc(), FRONT, PRINTED)
 }

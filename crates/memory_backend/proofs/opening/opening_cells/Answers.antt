@@ -4,16 +4,16 @@ use Rattle.std.specs.List.{flat_map}
 use Rattle.file_store.specs.DescriptorMap.{opening as descriptors_opening}
 use Rattle.memory_backend.specs.declared.cell.CellContents.{CellContents}
 use Rattle.memory_backend.specs.declared.cell.CellContents.TheVariants.{Descriptors}
-use Rattle.memory_backend.specs.Among.{SlotsAmong}
+use Rattle.memory_backend.specs.Among.{IsMapAmong}
 use Rattle.memory_backend.specs.CellNumbers.{AreCellsOf}
 use Rattle.memory_backend.specs.Openings.{opening_groups, opening_names, with_contents}
 use Rattle.memory_backend.proofs.OpeningCells.{are_cells, length_names}
 use Rattle.memory_backend.proofs.OpeningRows.{groups_on}
-use Rattle.memory_backend.proofs.SlotsAmong.{opening_among}
+use Rattle.memory_backend.proofs.MapAmong.{opening_among}
 use Rattle.memory_backend.proofs.opening.opening_cells.Goals as goal
 
 pub new-requires-2 : goal.new-requires-2
-new-requires-2 c = subst (SlotsAmong _) (sym c.in_ok-descriptors.ensures) (opening_among _)
+new-requires-2 c = subst (IsMapAmong _) (sym c.in_ok-descriptors.ensures) (opening_among _ (omega arith))
 
 pub loop-preserved : goal.loop-preserved
 loop-preserved c =

@@ -1,11 +1,9 @@
-use Rattle.std.proofs.Common.{ap, ◌∙◌, ◌||◌}
-use Rattle.path_walk.specs.declared.route.Station.{Station}
-use Rattle.path_walk.specs.declared.goal.Goal.TheVariants.{MoveTo}
-use Rattle.path_walk.specs.Machine.{trail_from}
-use Rattle.path_walk.proofs.MachineLemmas.{moves_on}
+use Rattle.path_walk.proofs.MachineLemmas.{moves_from, moves_on}
 use Rattle.path_walk.proofs.goal.move_from.Goals as goal
 
-pub returns-in-Ok : goal.returns-in-Ok
-returns-in-Ok c =
-    moves_on c.args.last c.args.slash c.args.new c.args.from c.in-Ok.route c.new.result c.in-Ok.is
-    (c.new.ensures ∙ ap (λ (start : Station). trail_from start c.in-Ok.route.parts c.in-Ok.route.manner c.in-Ok.route.slash (MoveTo c.args.from c.args.last (c.args.slash || c.in-Ok.route.slash) c.in-Ok.route.last)) c.start.ensures)
+pub returns-in-None : goal.returns-in-None
+returns-in-None c = moves_on c.args.last c.args.slash c.args.base c.args.new c.args.from c.in-Ok.route c.from_root-trail.result c.in-Ok.is c.in-None.is c.from_root-trail.ensures
+
+pub returns-in-Some : goal.returns-in-Some
+returns-in-Some c =
+    moves_from c.args.last c.args.slash c.args.base c.in-Some.base c.args.new c.args.from c.in-Ok.route c.from_root-trail.result c.ask_start.result.need c.ask_start.result.stage c.in-Ok.is c.in-Some.is c.from_root-trail.ensures c.ask_start.ensures

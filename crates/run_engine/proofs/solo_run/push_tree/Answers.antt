@@ -1,4 +1,4 @@
-use Rattle.std.proofs.Common.{◌≡◌, ◌∙◌, ◌++◌, ℕ, List, ap, sym}
+use Rattle.std.proofs.Common.{◌∙◌, ◌++◌, ℕ, List, ap, sym}
 use Rattle.std.specs.List.{flat_map}
 use Rattle.run_engine.specs.declared.whole_tree.PlacedLine.{PlacedLine}
 use Rattle.run_engine.specs.WholeTree.{placed_text}

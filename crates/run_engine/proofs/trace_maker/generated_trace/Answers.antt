@@ -1,4 +1,4 @@
-use Rattle.std.proofs.Common.{◌≡◌, ◌∙◌, arith, ap, length}
+use Rattle.std.proofs.Common.{◌∙◌, arith, ap, length}
 use Rattle.run_engine.specs.Generated.{generated_lines, state_after}
 use Rattle.run_engine.proofs.DrawLemmas.{draws_are, lines_length, next_call, one_line}
 use Rattle.run_engine.proofs.trace_maker.generated_trace.Goals as goal

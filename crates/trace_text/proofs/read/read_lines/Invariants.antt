@@ -7,7 +7,7 @@ use Rattle.trace_text.proofs.read.read_lines.Given as goal
 -- the trace so far, and what is left, are the whole trace
 abbrev pub invariant-loop-line : goal.invariant-loop-line
 invariant-loop-line l = record {
-  read : trace_on l.mode l.number l.reader (pieces_of l.rest) ≡ trace_on l.mode 2 (nothing 1) (pieces_of l.fn.bytes);
+  read : trace_on l.mode l.number l.reader (pieces_of l.rest) ≡ trace_on l.mode 2 (nothing l.fn.version) (pieces_of l.fn.bytes);
   count : l.number + length l.rest ≤ 2 + length l.fn.bytes;
 }
 

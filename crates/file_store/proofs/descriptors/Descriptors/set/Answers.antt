@@ -17,7 +17,7 @@ invariant_of-self c =
 pub invariant_of-self-else-free : goal.invariant_of-self-else-free
 invariant_of-self-else-free c =
     let free = sym c.is_free-free.ensures ∙ c.if-free.false in
-    let length_is = ap (λ (m : Map). length m) c.self.view_is in
+    let length_is = ap (λ (m : Map). length m.slots) c.self.view_is in
     let changed = c.remove.ensures ∙ ap (λ (bs : List Bool). set bs c.args.number false) c.self.invariant.1 ∙ ap (λ (b : Bool). set (map is_free c.self.inside.slots.items) c.args.number b) (sym free) in (
       length-set c.self.inside.slots.items c.args.number c.args.slot ∙ c.self.invariant.0,
       changed ∙ sym (map-set is_free c.self.inside.slots.items c.args.number c.args.slot),

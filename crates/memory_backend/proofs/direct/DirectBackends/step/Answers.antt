@@ -27,7 +27,7 @@ pub returns-clause-ran : goal.returns-clause-ran
 returns-clause-ran g c =
     let self = c.args.self.now in
     let of_table = c.in_ok-answer.ensures.table in (
-      adds_one self.backends c.cell_of-number.result c.in_ok-answer.field-0-0 self.caller c.args.cell c.args.op c.in_ok-answer.answer self.pass c.step.new.pass c.cell_of-number.ensures.number c.in_ok-answer.ensures.ok of_table.1
+      adds_one self.backends c.cell_of-number.result c.in_ok-answer.field-0-0 self.caller c.args.cell c.args.op c.in_ok-answer.answer self.pass c.step.new.pass c.cell_of-number.ensures.number c.requires c.in_ok-answer.ensures.ok of_table.1
           (stays_of (table_id_of self.table.now) (table_openings self.table.now) self.pass c.step.new.pass self.of of_table.0),
       refl,
       refl,

@@ -1,9 +1,8 @@
 use Rattle.std.proofs.Common.{◌≡◌, ◌∷◌, [], List, map, sym, ap, ap₂, subst, ◌∙◌, arith}
 use Rattle.std.proofs.lemmas.List.{take_all}
 use Rattle.file_store.specs.DescriptorMap.{Map}
-use Rattle.path_walk.specs.Store.{Backend, Store}
+use Rattle.path_walk.specs.Store.{Backend, Store, opening_backend}
 use Rattle.trace_text.specs.declared.trace.BackendLine.{BackendLine}
-use Rattle.path_walk.specs.Store.{opening_backend}
 use Rattle.trace_text.specs.SoloText.{mounts_from, opening_store}
 use Rattle.run_engine.specs.RunStores.{IsRunStore}
 use Rattle.run_engine.proofs.OpeningLemmas.{opening_is_store}
