@@ -9,14 +9,16 @@ use crate::text_field::{has_plain_bytes, is_plain};
 use itoa::Buffer;
 use std::alloc::{AllocError, Global};
 
-pub(crate) fn append_number(text: &mut Vec<u8>, number: u64) -> Result<(), AllocError>
+/// Appends a number in decimal.
+pub fn append_number(text: &mut Vec<u8>, number: u64) -> Result<(), AllocError>
     ensures { OnOk result (text.new.items ≡ text.old.items ++ decimal number) }
 {
     let mut digits = Buffer::new();
     text.extend_from_slice(digits.format(number).as_bytes())
 }
 
-pub(crate) fn append_signed(text: &mut Vec<u8>, number: i64) -> Result<(), AllocError>
+/// Appends a number in decimal, with `-` before one below 0.
+pub fn append_signed(text: &mut Vec<u8>, number: i64) -> Result<(), AllocError>
     ensures { OnOk result (text.new.items ≡ text.old.items ++ signed_decimal number) }
 {
     let mut digits = Buffer::new();
@@ -96,14 +98,15 @@ pub(crate) fn append_text(text: &mut Vec<u8>, bytes: &[u8]) -> Result<(), AllocE
 }
 
 /// Appends a space and a text field.
-pub(crate) fn append_field(text: &mut Vec<u8>, bytes: &[u8]) -> Result<(), AllocError>
+pub fn append_field(text: &mut Vec<u8>, bytes: &[u8]) -> Result<(), AllocError>
     ensures { OnOk result (text.new.items ≡ text.old.items ++ next_field bytes.now) }
 {
     text.push(b' ')?;
     append_text(text, bytes)
 }
 
-pub(crate) fn append_sized(text: &mut Vec<u8>, front: &[u8], size: u64) -> Result<(), AllocError>
+/// Appends a word and a number.
+pub fn append_sized(text: &mut Vec<u8>, front: &[u8], size: u64) -> Result<(), AllocError>
     ensures { OnOk result (text.new.items ≡ text.old.items ++ (front.now ++ decimal size)) }
 {
     text.extend_from_slice(front)?;

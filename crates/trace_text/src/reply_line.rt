@@ -7,7 +7,8 @@ use name_store::NameList;
 use path_walk::Reply;
 use std::alloc::AllocError;
 
-fn append_names(text: &mut Vec<u8>, names: &NameList) -> Result<(), AllocError>
+/// Appends each name as a field.
+pub fn append_names(text: &mut Vec<u8>, names: &NameList) -> Result<(), AllocError>
     ensures { OnOk result (text.new.items ≡ text.old.items ++ flat_map next_field names.now) }
 {
     let names = names.as_slice();

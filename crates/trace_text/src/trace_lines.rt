@@ -24,7 +24,8 @@ fn append_descriptor(text: &mut Vec<u8>, descriptor: Descriptor) -> Result<(), A
     }
 }
 
-fn whence_word(whence: Whence) -> &'static [u8]
+/// The word of WHENCE.
+pub fn whence_word(whence: Whence) -> &'static [u8]
     ensures { result.now ≡ whence_field whence }
 {
     match whence {
@@ -34,7 +35,8 @@ fn whence_word(whence: Whence) -> &'static [u8]
     }
 }
 
-fn access_word(access: Access) -> &'static [u8]
+/// The flag of an access.
+pub fn access_word(access: Access) -> &'static [u8]
     ensures { result.now ≡ access_field access }
 {
     match access {
@@ -259,8 +261,8 @@ fn append_backends(text: &mut Vec<u8>, backends: &[BackendLine]) -> Result<(), A
     Ok(())
 }
 
-/// The name of a thread by its number.
-fn thread_name(threads: &[Text], number: u32) -> &[u8]
+/// The name of a thread by its number, and no bytes where there is none.
+pub fn thread_name(threads: &[Text], number: u32) -> &[u8]
     ensures { result.now ≡ thread_name threads.now number }
 {
     match threads.get(number as usize) {

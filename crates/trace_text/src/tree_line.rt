@@ -83,7 +83,13 @@ fn append_contents(text: &mut Vec<u8>, groups: &[Files], file: FileId) -> Result
     append_pages(text, files, file, size)
 }
 
-fn append_named(text: &mut Vec<u8>, word: &[u8], depth: u64, name: &[u8]) -> Result<(), AllocError>
+/// Appends `WORD DEPTH NAME`.
+pub fn append_named(
+    text: &mut Vec<u8>,
+    word: &[u8],
+    depth: u64,
+    name: &[u8],
+) -> Result<(), AllocError>
     ensures { OnOk result
         (text.new.items ≡ text.old.items ++ named_text word.now depth name.now) }
 {
