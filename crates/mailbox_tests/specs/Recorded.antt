@@ -15,6 +15,10 @@ use Rattle.mailbox_tests.specs.declared.recorder.Recorder.{Recorder}
 abbrev pub job_of : Kept → RunJob ℕ
 job_of k = run_job 0 k.place k.nth k.mark k.job
 
+-- the jobs that the recorder holds
+abbrev pub held_jobs : Recorder → List (RunJob ℕ)
+held_jobs r = map job_of r.kept.items
+
 abbrev pub left_suits : Left → RunJob ℕ → FateMark → Type 0
 left_suits t j f = (t.place ≡ j.place) × (t.nth ≡ j.nth)
 

@@ -7,6 +7,8 @@ mod events;
 #[cfg(test)]
 mod executing;
 #[cfg(test)]
+mod finishing;
+#[cfg(test)]
 mod memory;
 #[cfg(test)]
 mod pairs;

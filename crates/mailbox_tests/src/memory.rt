@@ -74,3 +74,27 @@ fn a_shutdown_cancels_what_an_execution_left(rt: HostRuntime) {
         assert_eq!(&rt; job.started == Started::Closing, nth > 1);
     }
 }
+
+/// What was left unfinished needs no notice, so an owner that would park goes on with it.
+#[test]
+fn a_check_that_would_park_goes_on(rt: HostRuntime) {
+    let Alone {
+        post,
+        owner,
+        pass,
+        place_use,
+    } = one_sender(&rt, 1);
+    let pass = send_each(&rt, &post, pass, &place_use, &[10, 11, 12]);
+    let mut runner = Recorder::new(rt.alloc(), 0);
+    runner.lean = Some(1);
+    let mut mailbox = fresh(&post, owner);
+    assert!(&rt; mailbox.check(&rt, &post, &mut runner).is_err());
+    let notices = mailbox
+        .wait_check(&rt, &post, &mut runner)
+        .expect(&rt, "memory for jobs");
+    assert_eq!(&rt; notices, 0);
+    assert_eq!(&rt; runner.log.len(), 6);
+    let (emptied, _cancelled) = mailbox.shutdown(&rt, &post, &mut runner);
+    let record = end(&rt, post, emptied, pass, place_use);
+    assert_eq!(&rt; record.places[0].jobs.len(), 3);
+}

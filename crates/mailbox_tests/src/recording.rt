@@ -1,8 +1,8 @@
 //! The recorder runs jobs.
 
-ghost use Rattle.std.specs.Prelude.{◌≡◌, ◌-◌, [], ◌∷◌, ◌++◌, map};
+ghost use Rattle.std.specs.Prelude.{◌≡◌, ◌-◌, [], ◌∷◌, ◌++◌};
 ghost use Rattle.std.specs.VecDeque.{deque_capacity, deque_len};
-ghost use Rattle.mailbox_tests.specs.Recorded.{Noting, Recorded, job_of, left_suits};
+ghost use Rattle.mailbox_tests.specs.Recorded.{Noting, Recorded, held_jobs, left_suits};
 ghost use Rattle.mailbox_tests.specs.Laws.{recorded_none, recorded_on};
 
 use crate::events::{Event, Kept, Left};
@@ -47,7 +47,7 @@ impl Runner<u64> for Recorder {
 
     ghost room = { λ r. deque_capacity r.kept - deque_len r.kept };
 
-    ghost held = { λ r. map job_of r.kept.items };
+    ghost held = { held_jobs };
 
     ghost suits = { left_suits };
 

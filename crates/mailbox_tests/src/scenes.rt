@@ -8,7 +8,7 @@ ghost use Rattle.post_core.specs.SendParts.{IsPassOf, post_places, post_senders,
 ghost use Rattle.mailbox.specs.Turns.{jobs_in};
 ghost use Rattle.mailbox_tests.specs.Scenes.{AreAllPasses, MayAllSend, MaySend};
 
-use post_core::{Emptied, Made, Owner, PlaceUse, Post, SendPass, close, make};
+use post_core::{CloseBack, Emptied, Made, Owner, PlaceUse, Post, SendPass, close, make};
 use proxy_laws::PostRecord;
 use std::process::Abort;
 
@@ -79,7 +79,8 @@ pub(crate) fn one_sender(rt: &(impl Abort + AllocGlobal), places: u32) -> Alone
     }
 }
 
-/// The record of a target of one sender that was shut down.
+/// The record of a target of one sender that was shut down. Where memory was wanting, everything came back, and it is made
+/// again.
 pub(crate) fn end(
     rt: &(impl Abort + AllocGlobal),
     post: Post<u64>,
@@ -96,6 +97,16 @@ pub(crate) fn end(
     let uses = only(rt, place_use);
     match close(rt.alloc(), post, emptied, passes, uses) {
         Ok(record) => record,
-        Err(_back) => panic!(rt; "memory for the record"),
+        Err(
+            CloseBack {
+                post,
+                emptied,
+                passes,
+                uses,
+            },
+        ) => match close(rt.alloc(), post, emptied, passes, uses) {
+            Ok(record) => record,
+            Err(_back) => panic!(rt; "memory for the record"),
+        },
     }
 }

@@ -17,6 +17,7 @@ pub(crate) enum Sent {
     Closed,
 }
 
+/// Puts a job, and does so again where memory was wanting: it came back, and nothing was put.
 pub(crate) fn put<R: Abort + Wait>(
     rt: &R,
     post: &Post<u64>,
@@ -29,7 +30,13 @@ pub(crate) fn put<R: Abort + Wait>(
 {
     match held.put(rt, post, place_use, job, job) {
         PutAnswer::Put(owing) => owing,
-        PutAnswer::NoMemory(_held, _) => panic!(rt; "memory for a job"),
+        PutAnswer::NoMemory(held, back) => {
+            assert_eq!(rt; back, job);
+            match held.put(rt, post, place_use, job, back) {
+                PutAnswer::Put(owing) => owing,
+                PutAnswer::NoMemory(_held, _) => panic!(rt; "memory for a job"),
+            }
+        }
     }
 }
 

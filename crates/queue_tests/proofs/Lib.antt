@@ -1,3 +1,4 @@
 mod Fresh
-mod Lines
+mod LineLemmas
+mod PlaceUses
 mod Senders

@@ -10,6 +10,7 @@ use Rattle.post_core.specs.declared.meant.Meant.{Ghosts}
 use Rattle.post_core.specs.declared.post.PlaceUse.{PlaceUse}
 use Rattle.post_core.specs.declared.post.Post.{Post}
 use Rattle.post_core.specs.declared.post.SendPass.{SendPass}
+use Rattle.post_core.specs.declared.views.Kept.{Kept}
 use Rattle.post_core.specs.declared.views.View.{View}
 use Rattle.post_core.specs.Ending.{AreEach}
 use Rattle.post_core.specs.Making.{fresh_view, system_uses}
@@ -17,7 +18,8 @@ use Rattle.post_core.specs.SendParts.{IsPassOf, pass_sender, pass_view, post_pla
 use Rattle.post_core.specs.Views.{first_uses, pass_of}
 use Rattle.proxy_queue.specs.declared.queue_set.SetParts.{SetParts}
 use Rattle.proxy_queue.specs.Sets.{AreSetParts, set_post}
-use Rattle.queue_tests.specs.Scenes.{AreAllPasses, HasSent, KeepsUses, MayAllSend, MayPut, MaySend}
+use Rattle.queue_tests.proofs.Fresh.{none_listed}
+use Rattle.queue_tests.specs.Scenes.{AreAllPasses, HasClonedNone, HasSentNone, KeepsUses, MayAllSend, MayPut, MaySend}
 
 module _ {J M : Type 0} where
   -- a use is good as long as the pass keeps its uses
@@ -103,9 +105,8 @@ some_use : (places : ℕ) → 0 < places → 0 < slice_index (first_uses places)
 some_use zero near = absurd (omega arith)
 some_use (suc n) near = omega arith
 
-none_there : (M : Type 0) (places k : ℕ) → HasSent {M = M} 0 0 (fresh_view places k)
-none_there M zero k = omega arith
-none_there M (suc n) k = omega arith
+none_there : (M : Type 0) (places k : ℕ) → HasSentNone {M = M} (fresh_view places k)
+none_there M places k p = let none = ap length (none_listed {X = Kept M} places p) in omega arith
 
 -- the parts of a target as they are made
 module _ {J M : Type 0} {g : Ghosts J M} (made : SetParts J M g) (target senders places : ℕ) (target_is : post_target (set_post made.set) ≡ target) (senders_are : post_senders (set_post made.set) ≡ senders) (places_are : post_places (set_post made.set) ≡ places) (some_place : 0 < places)
@@ -138,6 +139,9 @@ module _ {J M : Type 0} {g : Ghosts J M} (made : SetParts J M g) (target senders
       at (p ∷ ps) zero inside is = ap (λ v. (pass_of v).number) (is p)
       at (p ∷ ps) (suc m) inside is = at ps m (omega arith) is
 
-  -- no pass has put a job
-  pub none_sent : All (λ pass. HasSent 0 0 (pass_view pass)) made.passes.items
-  none_sent k d near = subst (λ (v : View M). HasSent 0 0 v) (sym (view_at k d near)) (none_there M places k)
+  -- no pass has put a job, or cloned a use
+  pub none_sent : All (λ pass. HasSentNone (pass_view pass)) made.passes.items
+  none_sent k d near = subst (λ (v : View M). HasSentNone v) (sym (view_at k d near)) (none_there M places k)
+
+  pub none_cloned : All (λ pass. HasClonedNone (pass_view pass)) made.passes.items
+  none_cloned k d near = ap (λ v. (pass_of v).clones) (view_at k d near)

@@ -1,5 +1,5 @@
 -- What the tests know of the parts of a target between two calls.
-use Rattle.std.specs.Prelude.{◌≡◌, ℕ, ◌≤◌, All, List, [], ◌∷◌, length, map}
+use Rattle.std.specs.Prelude.{◌≡◌, ◌≢◌, ℕ, ◌≤◌, All, List, [], ◌∷◌, length, map, slice_index}
 use Rattle.post_core.specs.declared.meant.Meant.{Ghosts}
 use Rattle.post_core.specs.declared.owner.Emptied.{Emptied}
 use Rattle.post_core.specs.declared.post.PlaceUse.{PlaceUse}
@@ -10,7 +10,7 @@ use Rattle.post_core.specs.Ending.{AreEach}
 use Rattle.post_core.specs.Kept.{listed}
 use Rattle.post_core.specs.OwnerViews.{IsEmptiedOf, emptied_view}
 use Rattle.post_core.specs.Records.{AreSettled}
-use Rattle.post_core.specs.SendParts.{HasPlace, IsPassOf, IsUseOf, pass_sender, pass_view, post_places, post_senders, post_target, use_place}
+use Rattle.post_core.specs.SendParts.{HasPlace, IsPassOf, IsUseFor, IsUseOf, pass_sender, pass_view, post_places, post_senders, post_target, use_place}
 use Rattle.post_core.specs.Views.{pass_of}
 use Rattle.mailbox.specs.declared.owner_at.Mailbox.{Mailbox}
 use Rattle.mailbox.specs.Boxes.{IsMailboxOf, mailbox_view}
@@ -26,10 +26,22 @@ module _ {M : Type 0} where
   abbrev pub HasSent : ℕ → ℕ → View M → Type 0
   HasSent p count v = length (listed (pass_of v).own p) ≤ count
 
+  -- a pass has put no job
+  abbrev pub HasSentNone : View M → Type 0
+  HasSentNone v = (p : ℕ) → HasSent p 0 v
+
+  -- a pass has cloned no use
+  abbrev pub HasClonedNone : View M → Type 0
+  HasClonedNone v = (pass_of v).clones ≡ 0
+
 module _ {J M : Type 0} where
   -- the pass with this view may put at the place of the use
   abbrev pub MayPut : Post J M → View M → PlaceUse J → Type 0
   MayPut post v place_use = HasPlace post (use_place place_use) × IsUseOf post v place_use
+
+  -- the pass has so many uses of the use's place, which is not the system queue's
+  abbrev pub HasUses : ℕ → Post J M → View M → PlaceUse J → Type 0
+  HasUses n post v place_use = IsUseFor post v place_use × HasPlace post (use_place place_use) × (use_place place_use ≢ 0) × (slice_index (pass_of v).uses (use_place place_use) ≡ n)
 
 module _ {J M : Type 0} {g : Ghosts J M} where
   -- the pass may send to the place of the use
@@ -47,9 +59,9 @@ module _ {J M : Type 0} {g : Ghosts J M} where
   abbrev pub AreAllPasses : Post J M → List (SendPass J M g) → Type 0
   AreAllPasses post passes = All (λ pass. IsPassOf post pass) passes × AreEach (post_senders post) (map (λ pass. pass_sender pass) passes)
 
--- The mailbox is that of an owner of this post, whose target has the number 0, and no job is active.
+-- The mailbox is that of an owner of this post, whose target has the number 1, and no job is active.
 abbrev pub IsBoxIdle : {g : Ghosts ℕ ℕ} → Post ℕ ℕ → Mailbox ℕ ℕ g → Type 0
-IsBoxIdle post mailbox = (post_target post ≡ 0) × IsMailboxOf post mailbox × HoldsActive 0 (post_places post) (jobs_in (mailbox_view mailbox)) []
+IsBoxIdle post mailbox = (post_target post ≡ 1) × IsMailboxOf post mailbox × HoldsActive 1 (post_places post) (jobs_in (mailbox_view mailbox)) []
 
 -- The end of the post's owner, with no active job.
 abbrev pub IsEnd : {g : Ghosts ℕ ℕ} → Post ℕ ℕ → Emptied ℕ ℕ g → Type 0

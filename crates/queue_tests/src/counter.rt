@@ -1,4 +1,4 @@
-//! The counter runs jobs.
+//! The counter runs jobs of the target with number 1.
 
 ghost use Rattle.std.specs.Prelude.{[]};
 
@@ -23,7 +23,7 @@ impl Counter {
 impl Runner<u64> for Counter {
     type Tail = ();
 
-    ghost target = { λ r. 0 };
+    ghost target = { λ r. 1 };
 
     ghost room = { λ r. 1 };
 

@@ -5,10 +5,16 @@
 mod beside;
 #[cfg(test)]
 mod counter;
+#[cfg(test)]
+mod lines;
 mod parts;
+#[cfg(test)]
+mod queues;
 #[cfg(test)]
 mod rows;
 #[cfg(test)]
 mod scenes;
 #[cfg(test)]
 mod sending;
+#[cfg(test)]
+mod threads;

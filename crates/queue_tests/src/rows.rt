@@ -1,57 +1,11 @@
 //! One sender of one target, in one thread.
 
-ghost use Rattle.std.specs.Prelude.{◌≡◌, ◌≤◌, ◌∷◌, [], false};
-ghost use Rattle.post_core.specs.SendParts.{pass_view, post_places};
-ghost use Rattle.mailbox.specs.Boxes.{is_unfinished};
-ghost use Rattle.proxy_queue.specs.Sets.{set_post};
-ghost use Rattle.queue_tests.specs.Scenes.{AreAllPasses, HasSent, IsBoxIdle, MaySend};
-
 use crate::parts::Counter;
-use crate::scenes::{end, only, target};
+use crate::scenes::{OneSender, end, one_sender, only, target};
 use crate::sending::{Sent, send, try_send};
-use mailbox::{Cancelled, Mailbox};
-use post_core::SendPass;
+use mailbox::Cancelled;
 use proxy_laws::{FateMark, Started};
-use proxy_queue::{QueueSet, QueueUse, SetParts};
-use std::process::Abort;
-
-/// A target of one sender.
-struct OneSender {
-    set: QueueSet<u64>,
-    mailbox: Mailbox<u64>,
-    pass: SendPass<u64>,
-    place_use: QueueUse<u64>,
-}
-
-fn make_one(rt: &(impl Abort + AllocGlobal), places: u32) -> OneSender
-    requires places { (1 ≤ places) × (places ≤ 256) }
-    ensures mailbox { IsBoxIdle (set_post result.set) result.mailbox }
-    ensures rests { is_unfinished result.mailbox ≡ false }
-    ensures sender { MaySend (set_post result.set) result.pass result.place_use }
-    ensures passes { AreAllPasses (set_post result.set) (result.pass ∷ []) }
-    ensures places { post_places (set_post result.set) ≡ places }
-    ensures fresh { HasSent 0 0 (pass_view result.pass) }
-{
-    let SetParts {
-        set,
-        mailbox,
-        mut passes,
-        mut system,
-    } = target(rt, 1, places);
-    match (passes.pop(), system.pop()) {
-        (Some(pass), Some(place_use)) => {
-            passes.destroy_empty();
-            system.destroy_empty();
-            OneSender {
-                set,
-                mailbox,
-                pass,
-                place_use,
-            }
-        }
-        _ => panic!(rt; "a target without its sender"),
-    }
-}
+use proxy_queue::QueueSet;
 
 #[test]
 fn a_closed_target_hands_jobs_back(rt: HostRuntime) {
@@ -60,7 +14,7 @@ fn a_closed_target_hands_jobs_back(rt: HostRuntime) {
         mailbox,
         pass,
         place_use,
-    } = make_one(&rt, 1);
+    } = one_sender(&rt, 1);
     let mut counter = Counter::new(8);
     let (pass, sent) = send(&rt, &set, pass, &place_use, 10);
     assert_eq!(&rt; sent, Sent::Accepted(0));
@@ -85,7 +39,7 @@ fn a_send_that_does_not_wait_is_taken_until_the_target_closes(rt: HostRuntime) {
         mailbox,
         pass,
         place_use,
-    } = make_one(&rt, 1);
+    } = one_sender(&rt, 1);
     let mut counter = Counter::new(8);
     let (pass, sent, count) = try_send(&set, pass, &place_use, 10, 0);
     assert_eq!(&rt; sent, Sent::Accepted(0));
@@ -117,7 +71,7 @@ fn an_execution_leaves_the_notice(rt: HostRuntime) {
         mut mailbox,
         pass,
         place_use,
-    } = make_one(&rt, 1);
+    } = one_sender(&rt, 1);
     let mut counter = Counter::new(8);
     let (pass, _sent) = send(&rt, &set, pass, &place_use, 10);
     let jobs = set.execute(&rt, &mut mailbox, &place_use, &mut counter);

@@ -16,8 +16,10 @@ pub(crate) enum Sent {
     Accepted(u64),
     /// The target takes no more jobs, and this one came back.
     Closed(u64),
-    NoMemory,
-    Busy,
+    /// Memory was wanting, and this job came back.
+    NoMemory(u64),
+    /// Another thread was in the way, and this job came back.
+    Busy(u64),
 }
 
 /// Sends a job, whose tag is its number.
@@ -34,7 +36,7 @@ pub(crate) fn send<R: Wait>(
     match set.send(rt, pass, place_use, job, job) {
         SendAnswer::Accepted { pass, nth } => (pass, Sent::Accepted(nth)),
         SendAnswer::Closed { pass, job } => (pass, Sent::Closed(job)),
-        SendAnswer::NoMemory { pass, job: _ } => (pass, Sent::NoMemory),
+        SendAnswer::NoMemory { pass, job } => (pass, Sent::NoMemory(job)),
     }
 }
 
@@ -57,12 +59,12 @@ pub(crate) fn try_send(
     match set.try_send(pass, place_use, job, job) {
         TryAnswer::Accepted { pass, nth } => (pass, Sent::Accepted(nth), count + 1),
         TryAnswer::Closed { pass, job } => (pass, Sent::Closed(job), count),
-        TryAnswer::NoMemory { pass, job: _ } => (pass, Sent::NoMemory, count),
+        TryAnswer::NoMemory { pass, job } => (pass, Sent::NoMemory(job), count),
         TryAnswer::Busy {
             pass,
-            job: _,
+            job,
             word: _,
             value: _,
-        } => (pass, Sent::Busy, count),
+        } => (pass, Sent::Busy(job), count),
     }
 }

@@ -39,6 +39,12 @@ module _ {X : Type 0} (P : X → Type 0) where
       (λ last. subst P (sym (ap (λ i. get_or (xs ++ x ∷ []) i d) last ∙ get_or-append_seam xs x [] d)) holds)
       (λ before. let inside : k < length xs = omega (arith, length-append xs (x ∷ [])) in subst P (sym (get_or-append xs (x ∷ []) d k inside)) (all k d inside))
 
+  pub all_pop : (all xs : List X) (x : X) → All P all → all ≡ xs ++ x ∷ [] → All P xs × P x
+  all_pop all xs x holds is = let old = subst (All P) is holds in (
+    (λ k d near. subst P (get_or-append xs (x ∷ []) d k near) (old k d (omega (arith, length-append xs (x ∷ []))))),
+    subst P (get_or-append_seam xs x [] x) (old (length xs) x (omega (arith, length-append xs (x ∷ [])))),
+  )
+
 module _ {J M : Type 0} {g : Ghosts J M} (post : Post J M) where
   pub split_both : (ps : List (SendPass J M g)) (us : List (PlaceUse J)) (p : SendPass J M g) (u : PlaceUse J) → MayAllSend post (ps ++ p ∷ []) (us ++ u ∷ []) → MayAllSend post ps us × MaySend post p u
   split_both [] [] p u all = (tt, all.0)

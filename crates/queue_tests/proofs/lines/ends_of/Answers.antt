@@ -3,19 +3,13 @@ use Rattle.std.specs.Prelude.{All, IfSome}
 use Rattle.post_core.specs.SendParts.{IsPassOf, post_senders}
 use Rattle.proxy_queue.specs.Sets.{set_post}
 use Rattle.queue_tests.specs.Scenes.{MaySend}
-use Rattle.queue_tests.proofs.Lines.{AreFirst, all_push, lines_pop, numbers, numbers_push}
-use Rattle.queue_tests.proofs.beside.ends_of.Goals as goal
-
-pub keep-requires : goal.keep-requires
-keep-requires g c =
-    let inv = c.loop-line.invariant in
-    let post = (set_post c.args.set.now) in
-    ((lines_pop post (post_senders post) c.loop-line.lines.items c.pop.new.self.items c.in-Some.line inv.lines c.in-Some.ensures.items).1.3, inv.emptied)
+use Rattle.queue_tests.proofs.LineLemmas.{AreFirst, all_push, lines_pop, numbers, numbers_push}
+use Rattle.queue_tests.proofs.lines.ends_of.Goals as goal
 
 pub loop-line-preserved : goal.loop-line-preserved
 loop-line-preserved g c =
     let inv = c.loop-line.invariant in
-    let post = (set_post c.args.set.now) in
+    let post = (set_post c.args._set.now) in
     let line = c.in-Some.line in
     let pass = c.in-Some-pass.pass in
     let left = c.pop.new.self.items in
@@ -30,5 +24,4 @@ loop-line-preserved g c =
       all = subst (λ xs. All (λ p. IsPassOf post p) xs) (sym passes_are) (all_push (λ p. IsPassOf post p) before pass inv.all may.0);
       first = subst (λ xs. AreFirst (numbers post xs)) (sym passes_are) (numbers_push post before pass inv.first (sym may.1.1.of.1 ∙ (popped.1.0 ∙ number)));
       count = (let a = ap length passes_are in omega (arith, length-append before (pass ∷ [])));
-      emptied = c.keep.ensures;
     }
